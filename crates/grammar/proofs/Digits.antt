@@ -19,10 +19,10 @@ begun-more max n d u small h lt least most =
     ⊎-elim
     (λ k. let is : n * 10 + d ≡ d = omega (arith, k .1) in ap (λ w. w ++ ((48 + d) ∷ [])) (k .0) ∙ sym (decimal-digit d lt) ∙ ap decimal (sym is))
     (λ k.
-        let m : ℕ = n * 10 + d in
-        let q : m / 10 ≡ n = omega arith in
-        let r : m % 10 ≡ d = omega arith in
-        sym (decimal-step m (omega (arith, k .1)) (omega arith) ∙ (λ i. decimal (q i) ++ ((48 + r i) ∷ [])) ∙ ap (λ w. w ++ ((48 + d) ∷ [])) (sym (k .0))))
+    let m : ℕ = n * 10 + d in
+    let q : m / 10 ≡ n = omega arith in
+    let r : m % 10 ≡ d = omega arith in
+    sym (decimal-step m (omega (arith, k .1)) (omega arith) ∙ (λ i. decimal (q i) ++ ((48 + r i) ∷ [])) ∙ ap (λ w. w ++ ((48 + d) ∷ [])) (sym (k .0))))
     h
 
 -- what begins a number is a number
@@ -42,12 +42,14 @@ more-front n ds ge h big =
     let less : n / 10 < 2 ^ 64 = omega arith in
     let some : 1 ≤ n / 10 = omega arith in
     let k = h less in
-    let is : ds ++ ((48 + n % 10) ∷ []) ≡ decimal n = ap (λ w. w ++ ((48 + n % 10) ∷ [])) (k .0) ∙ sym (decimal-step n ge big) in
-    (is, λ pos u v e long.
-        ⊎-elim
-        (λ r. let z = k .1 some u (r .0) (r .1) long in (z .0, z .1, z .2, omega (arith, z .3)))
-        (λ r. last u v e long is (r .0) (r .1) (r .2) (k .1 some))
-        (levi ds ((48 + n % 10) ∷ []) u v e))
+    let is : ds ++ ((48 + n % 10) ∷ []) ≡ decimal n = ap (λ w. w ++ ((48 + n % 10) ∷ [])) (k .0) ∙ sym (decimal-step n ge big) in (
+      is,
+      λ pos u v e long.
+          ⊎-elim
+          (λ r. let z = k .1 some u (r .0) (r .1) long in (z .0, z .1, z .2, omega (arith, z .3)))
+          (λ r. last u v e long is (r .0) (r .1) (r .2) (k .1 some))
+          (levi ds ((48 + n % 10) ∷ []) u v e),
+    )
   where
     last : (u v : List ℕ) → ds ++ ((48 + n % 10) ∷ []) ≡ u ++ v → 0 < length u → ds ++ ((48 + n % 10) ∷ []) ≡ decimal n → (m : List ℕ) → u ≡ ds ++ m → (48 + n % 10) ∷ [] ≡ m ++ v → ((u v : List ℕ) → ds ≡ u ++ v → 0 < length u → (k : ℕ) × (u ≡ decimal k) × (1 ≤ k) × (k ≤ n / 10)) → (k : ℕ) × (u ≡ decimal k) × (1 ≤ k) × (k ≤ n)
     last u v e long is [] p q rec = let z = rec u [] (sym (append-nil ds) ∙ sym p ∙ sym (append-nil u)) long in (z .0, z .1, z .2, omega (arith, z .3))
@@ -66,8 +68,8 @@ last-digit max n k b u small h e pos le =
     ⊎-elim
     (λ lt. ⊎-elim (λ z. single lt (z .0) (z .1)) (λ z. absurd (long lt (z .0) (z .1) (z .2))) h)
     (λ ge.
-        let m = same-from-push u (decimal (k / 10)) b (48 + k % 10) (e ∙ decimal-step k ge (omega arith)) in
-        ⊎-elim (λ z. absurd (omega (arith, decimal-some (k / 10) (omega arith), ap length (sym (z .0) ∙ m .0)))) (λ z. let is : n ≡ k / 10 = same-from-decimal n (k / 10) (omega (arith, z .2)) (omega arith) (sym (z .0) ∙ m .0) in (k % 10, omega arith, m .1, omega arith)) h)
+    let m = same-from-push u (decimal (k / 10)) b (48 + k % 10) (e ∙ decimal-step k ge (omega arith)) in
+    ⊎-elim (λ z. absurd (omega (arith, decimal-some (k / 10) (omega arith), ap length (sym (z .0) ∙ m .0)))) (λ z. let is : n ≡ k / 10 = same-from-decimal n (k / 10) (omega (arith, z .2)) (omega arith) (sym (z .0) ∙ m .0) in (k % 10, omega arith, m .1, omega arith)) h)
     (order k 10)
   where
     single : k < 10 → u ≡ [] → n ≡ 0 → (d : ℕ) × (d < 10) × (b ≡ 48 + d) × (k ≡ n * 10 + d)
@@ -75,6 +77,7 @@ last-digit max n k b u small h e pos le =
       where
         heads : b ∷ [] ≡ (48 + k) ∷ [] → b ≡ 48 + k
         heads q = cc
+
     long : k < 10 → u ≡ decimal n → 1 ≤ n → n ≤ max → ⊥
     long lt is some most = omega (arith, ap length (e ∙ decimal-digit k lt), length-append u (b ∷ []), ap length is, decimal-some n (omega arith))
 

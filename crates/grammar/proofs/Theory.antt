@@ -48,16 +48,21 @@ module _ {A : Type 0} {K : Grammar A} where
   -- the longest front is the longest shared
   pub longest-edge : (u v : List ℕ) → Edge K u v → LongestShared K (u ++ v) (length u)
   longest-edge u v h = record {
-    one = (h .front .value, h .front .valid, record {
-      here = omega (arith, length-append u v);
-      there = omega (arith, length-append u (h .front .rest), ap length (h .front .text));
-      same = take-front u v ∙ sym (ap (take (length u)) (h .front .text) ∙ take-front u (h .front .rest));
-    });
+    one = (
+      h .front .value,
+      h .front .valid,
+      record {
+        here = omega (arith, length-append u v);
+        there = omega (arith, length-append u (h .front .rest), ap length (h .front .text));
+        same = take-front u v ∙ sym (ap (take (length u)) (h .front .text) ∙ take-front u (h .front .rest));
+      },
+    );
     most = λ a va n sh. ⊎-elim (λ more. absurd (past a va n sh v refl more)) (λ le. le) (order (length u) n);
   }
     where
       take-front : (xs ys : List ℕ) → take (length xs) (xs ++ ys) ≡ xs
       take-front xs ys = take-at xs ys (length xs) refl
+
       past : (a : A) → K .valid a → (n : ℕ) → Shared (u ++ v) (K .text a) n → (w : List ℕ) → v ≡ w → length u < n → ⊥
       past a va n sh [] e more = omega (arith, length-append u v, ap length e, sh .here)
       past a va n sh (b ∷ x) e more =
@@ -118,6 +123,7 @@ module _ {A : Type 0} {K : Grammar A} where
     where
       short : (m : List ℕ) → h .before ≡ K .text a ++ m → m ≡ []
       short m is = let f = h .stuck .edge .front in nil-left m (f .rest) (code a (f .value) va (f .valid) (m ++ f .rest) (f .text ∙ ap (λ w. w ++ f .rest) is ∙ append-assoc (K .text a) m (f .rest)) .1)
+
       after-cases : (m v : List ℕ) → h .after ≡ v → K .text a ≡ h .before ++ m → h .after ≡ m ++ x → ⊥
       after-cases [] v ev is ea = h .stuck .whole a va (is ∙ append-nil _)
       after-cases (b ∷ m) v ev is ea = h .stuck .edge .next b (m ++ x) ea (record { value = a; valid = va; rest = m; text = is ∙ sym (append-assoc (h .before) (b ∷ []) m) })
@@ -136,6 +142,7 @@ module _ {A : Type 0} {K : Grammar A} where
         where
           same-head : t ∷ x ≡ c ∷ (m ++ (t ∷ [])) → c ≡ t
           same-head e = cc
+
       right : (m : List ℕ) → K .text a ≡ K .text b ++ m → t ∷ [] ≡ m ++ (t ∷ x) → (a ≡ b) × (x ≡ [])
       right [] p q = (one a b va vb (p ∙ append-nil _), (cc))
       right (c ∷ m) p q = absurd (ends m x (cc))
@@ -160,6 +167,7 @@ module _ {A : Type 0} {K : Grammar A} where
       left : (b : ℕ) (x : List ℕ) → v ≡ b ∷ x → (a : A) → K .valid a → (r m : List ℕ) → K .text a ≡ u ++ m → b ∷ r ≡ m ++ (t ∷ []) → ⊥
       left b x e a va r [] p q = bar a va (p ∙ append-nil _) x (cc)
       left b x e a va r (c ∷ m) p q = h .next c x (cc) (record { value = a; valid = va; rest = m; text = p ∙ sym (append-assoc u (c ∷ []) m) })
+
       right : (b : ℕ) (x : List ℕ) → v ≡ b ∷ x → (a : A) → K .valid a → (r m : List ℕ) → u ≡ K .text a ++ m → t ∷ [] ≡ m ++ (b ∷ r) → ⊥
       right b x e a va r [] p q = bar a va (sym (p ∙ append-nil _)) x (cc)
       right b x e a va r (c ∷ []) p q = not-nil {x = b} {xs = r} (cc)
@@ -206,9 +214,11 @@ module _ {A B : Type 0} (K : Grammar A) (D : A → Grammar B) where
     where
       f : Front K u
       f = h .edge .front
+
       left : (b : ℕ) (x : List ℕ) → v ≡ b ∷ x → (a : A) → K .valid a → (r y m : List ℕ) → K .text a ≡ u ++ m → b ∷ r ≡ m ++ y → ⊥
       left b x e a va r y [] p q = h .whole a va (p ∙ append-nil _)
       left b x e a va r y (c ∷ m) p q = h .edge .next c x (cc) (record { value = a; valid = va; rest = m; text = p ∙ sym (append-assoc u (c ∷ []) m) })
+
       over : (a : A) → K .valid a → (m : List ℕ) → u ≡ K .text a ++ m → ⊥
       over a va m is =
           let none = nil-left m (h .edge .front .rest) (code a (h .edge .front .value) va (h .edge .front .valid) (m ++ h .edge .front .rest) (h .edge .front .text ∙ ap (λ w. w ++ h .edge .front .rest) is ∙ append-assoc (K .text a) m (h .edge .front .rest)) .1) in
@@ -292,13 +302,15 @@ module _ {A B : Type 0} {L : Grammar A} {K : Grammar B} where
 
     pub sofar-found : (b : B) (p : ℕ) → Found K at bs b p → (a : A) × Found L at₀ bs₀ a p
     sofar-found b p h =
-        let a = s .after .to b (h .valid) in
-        (a .0, record {
-          valid = a .1;
-          after = h .after;
-          split = s .split ∙ ap (λ w. s .read ++ w) (h .split) ∙ sym (append-assoc (s .read) (K .text b) (h .after)) ∙ ap (λ w. w ++ h .after) (sym (a .2));
-          place = omega (arith, h .place, s .place, length-append (s .read) (K .text b), ap length (a .2));
-        })
+        let a = s .after .to b (h .valid) in (
+          a .0,
+          record {
+            valid = a .1;
+            after = h .after;
+            split = s .split ∙ ap (λ w. s .read ++ w) (h .split) ∙ sym (append-assoc (s .read) (K .text b) (h .after)) ∙ ap (λ w. w ++ h .after) (sym (a .2));
+            place = omega (arith, h .place, s .place, length-append (s .read) (K .text b), ap length (a .2));
+          },
+        )
 
 module _ {A B C : Type 0} {L : Grammar A} (K : Grammar B) (D : B → Grammar C) {at₀ at : ℕ} {bs₀ bs : List ℕ} (code : Code K) (s : Sofar L at₀ bs₀ (seq K D) at bs) where
   pub part-lost : ((b : B) → K .valid b → (c : C) × D b .valid c) → (p : ℕ) → Lost K at bs p → Lost L at₀ bs₀ p

@@ -5,14 +5,14 @@ use mathlib.Core.Logic.{_⊎_, inl, inr, ⊎-elim}
 use mathlib.Core.List.{List, [], _∷_, _++_, append-nil, append-assoc}
 use Prim.Native.Nat.{ℕ, zero, suc, _+_, _-_, _^_, _/_, _%_, _≤_, _<_}
 use native.Mathlib.Omega.{arith}
-use lib.Dec.{eqb, lit≤}
+use lib.Dec.{eqb, ltb, lit≤}
 use lib.IntN.{ℤ, pos, negsuc, _-ℤ_}
 use mir.Syntax.{w16}
 use mir.Val.{toZ, ofZ}
 use Rattle.std.proofs.shelf.Signed.{ints}
 use lib.Signed.{mag}
 use lib.ListN.{length, getD, take, drop, length-append, length-drop, take-append-drop}
-use borrow.Author.Tests.{eq-eqb, true-eqb, false-eqb}
+use borrow.Author.Tests.{ltb-true, eq-eqb, true-eqb, false-eqb}
 use Rattle.std.specs.Written.{decimal}
 use Rattle.std.proofs.str.Laws.{order}
 use Rattle.std.proofs.shelf.Lists.{drop-more, take-at, drop-at, take-all, length-take-le, nil-from-length}
@@ -46,6 +46,7 @@ high-more n ds ge h u w b e = ⊎-elim (λ r. left (r .0) (r .1) (r .2)) (λ r. 
     left : (m : List ℕ) → ds ≡ u ++ m → b ∷ w ≡ m ++ ((48 + n % 10) ∷ []) → 48 ≤ b
     left [] p q = let is : b ≡ 48 + n % 10 = cc in omega arith
     left (c ∷ m) p q = let is : b ≡ c = cc in omega (arith, h u m c p)
+
     right : (m : List ℕ) → (48 + n % 10) ∷ [] ≡ m ++ (b ∷ w) → 48 ≤ b
     right [] q = let is : b ≡ 48 + n % 10 = cc in omega arith
     right (c ∷ []) q = absurd (not-nil {x = b} {xs = w} (cc))
@@ -109,6 +110,7 @@ spelled-clear z h u w t s e = by (spelledZ z) (view z h) e
     after-minus : (n : ℕ) → 1 ≤ n → n ≤ 32767 → (u : List ℕ) → 45 ∷ decimal n ≡ u ++ (t ∷ w) → ⊥
     after-minus n p q [] e = let is : t ≡ 45 = cc in omega (arith, separator-low t s)
     after-minus n p q (x ∷ u) e = omega (arith, separator-low t s, decimal-high n (omega arith) u w t (cc))
+
     by : (a : List ℕ) → View a → a ≡ u ++ (t ∷ w) → ⊥
     by a (plain n p q e) k = omega (arith, separator-low t s, decimal-high n (omega arith) u w t (sym e ∙ k))
     by a (nought e) k = omega (arith, separator-low t s, one-byte 48 t u w (sym e ∙ k))
@@ -138,11 +140,33 @@ spelled-apart (negsuc m) (negsuc n) h k e =
         let d : decimal (suc m) ≡ decimal (suc n) = cc in
         let s = same-from-decimal (suc m) (suc n) (omega arith) (omega arith) d in
         omega arith
+
     heads : (a : ℕ) → a < 32767 → (b : ℕ) → b ≡ 32767 → spelledZ (negsuc a) ≡ spelledZ (negsuc b) → ⊥
     heads a la b is e =
         let t : 45 ∷ decimal (suc a) ≡ 46 ∷ [] = sym (minus-is a la) ∙ e ∙ ap (λ k. spelledZ (negsuc k)) is in
         let z : _≡_ {A = ℕ} 45 46 = cc in
         omega arith
+
+-- each byte is above every separator
+abbrev pub clear : List ℕ → Bool
+clear [] = true
+clear (b ∷ bs) = cond (ltb 41 b) (clear bs) false
+
+clear-first : (b : ℕ) (bs : List ℕ) → clear (b ∷ bs) ≡ true → (41 < b) × (clear bs ≡ true)
+clear-first b bs h = by (ltb 41 b) refl h
+  where
+    by : (c : Bool) → ltb 41 b ≡ c → cond c (clear bs) false ≡ true → (41 < b) × (clear bs ≡ true)
+    by true q k = (ltb-true 41 b q, k)
+    by false q k = let z : _≡_ {A = ℕ} 0 1 = cc in absurd (omega arith)
+
+clear-at : (bs u w : List ℕ) (t : ℕ) → clear bs ≡ true → bs ≡ u ++ (t ∷ w) → 41 < t
+clear-at [] [] w t h e = absurd (not-nil {x = t} {xs = w} (sym e))
+clear-at [] (x ∷ u) w t h e = absurd (not-nil {x = x} {xs = u ++ (t ∷ w)} (sym e))
+clear-at (b ∷ bs) [] w t h e = let is : b ≡ t = cc in omega (arith, clear-first b bs h .0)
+clear-at (b ∷ bs) (x ∷ u) w t h e = clear-at bs u w t (clear-first b bs h .1) (cc)
+
+pub word-clear : (bs : List ℕ) → clear bs ≡ true → (u w : List ℕ) (t : ℕ) → Separator t → bs ≡ u ++ (t ∷ w) → ⊥
+word-clear bs h u w t s e = omega (arith, separator-low t s, clear-at bs u w t h e)
 
 pub class-clear : (x : Class) (u w : List ℕ) (t : ℕ) → Separator t → letterOf x ∷ [] ≡ u ++ (t ∷ w) → ⊥
 class-clear x u w t s e = omega (arith, separator-low t s, one-byte (letterOf x) t u w e, letter-high x)
@@ -212,6 +236,7 @@ after-minus = record {
     to : (n : ℕ) → 1 ≤ n → n ≤ 32767 → (a : Height) × (Unit {0}) × (spelledZ (a .dm) ≡ 45 ∷ decimal n)
     to zero p q = absurd (omega arith)
     to (suc n) p q = (low n (omega arith), tt, minus-is n (omega arith))
+
     from : (s : List ℕ) → View s → (x : List ℕ) → s ≡ 45 ∷ x → (n : ℕ) × ((1 ≤ n) × (n ≤ 32767)) × (x ≡ decimal n)
     from s (plain n p q e) x k = absurd (omega (arith, first-plain n p q 45 x (sym e ∙ k)))
     from s (nought e) x k = let z : _≡_ {A = ℕ} 48 45 = cc in absurd (omega arith)
@@ -235,6 +260,7 @@ edge-plain c na nb nd u v y starts h = record {
     found b x e f z k =
         let n = number-only c na nb nd (spelledZ (f .value .dm)) (view (f .value .dm) (f .value .fits)) z (f .text ∙ k) in
         h .next b x e (record { value = n .0; valid = (n .1, n .2); rest = f .rest; text = sym (n .3) ∙ f .text })
+
     go : (b : ℕ) (x : List ℕ) → v ≡ b ∷ x → (f : Front H (u ++ (b ∷ []))) → (w : List ℕ) → w ++ v ≡ c ∷ y → u ≡ w → ⊥
     go b x e f [] k is = found b x e f (f .rest) (ap (λ t. (t ++ (b ∷ [])) ++ f .rest) is ∙ ap (λ t. t ∷ f .rest) (cc))
     go b x e f (d ∷ w) k is = found b x e f ((w ++ (b ∷ [])) ++ f .rest) (ap (λ t. (t ++ (b ∷ [])) ++ f .rest) is ∙ ap (λ t. t ∷ ((w ++ (b ∷ [])) ++ f .rest)) (cc))
@@ -286,6 +312,7 @@ scanned-whole {A = A} f bs p m h is = by m (h .value)
   where
     all : take p bs ≡ bs
     all = take-all p bs (omega arith)
+
     by : (m : Option A) → Cases m ((a : A) → Unit {0} → f a ≡ take p bs → ⊥) (λ a. (Unit {0}) × (f a ≡ take p bs)) → Cases m ((a : A) → f a ≡ bs → ⊥) (λ a. f a ≡ bs)
     by (Some a) v = v .1 ∙ all
     by None v = λ a e. v a tt (e ∙ sym all)

@@ -17,7 +17,7 @@ abbrev pub bits16 : ℤ → ℕ
 bits16 z = ofZ w16 z
 
 -- the height of z decimetres, if there is one
-pub withDm : (z : ℤ) (b : Bool) → ltb (mag z) (2 ^ 15) ≡ b → Option Height
+unfoldable pub withDm : (z : ℤ) (b : Bool) → ltb (mag z) (2 ^ 15) ≡ b → Option Height
 withDm z true e = Some (record { dm = z; fits = ltb-true (mag z) (2 ^ 15) e })
 withDm z false e = None
 

@@ -6,8 +6,6 @@ mod order;
 mod refusal;
 mod spelling;
 
-
-
 pub use class::Class;
 pub use class::ClassDebug;
 pub use class::ClassMark;

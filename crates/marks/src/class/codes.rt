@@ -2,11 +2,11 @@
 ghost use mathlib.Core.List.{[], _∷_};
 ghost use lib.Chars.{codes};
 ghost use Rattle.marks.specs.Classes.{rank, ranked, letterOf};
+use crate::ClassMark;
 use crate::class::Class;
 use crate::kind::CodedMark;
 use crate::kind::Spelled;
 use crate::spelling::Spelling;
-use crate::ClassMark;
 
 pub impl Spelled for Class as ClassSpelled {
     const WORD: &'static [u8] = b"class";

@@ -8,13 +8,13 @@ ghost use Rattle.std.specs.Written.{decimal};
 ghost use Rattle.grammar.specs.Grammars.{Scanned, all-by};
 ghost use Rattle.marks.specs.Heights.{bits16, heightOf};
 ghost use Rattle.marks.specs.Spellings.{spelledZ, spelt};
+use crate::HeightMark;
 use crate::height::Height;
 use crate::kind::CodedMark;
 use crate::kind::Mark;
 use crate::kind::Spelled;
 use crate::spelling::Spelling;
 use grammar::natural;
-use crate::HeightMark;
 
 pub impl Spelled for Height as HeightSpelled {
     const WORD: &'static [u8] = b"height";
