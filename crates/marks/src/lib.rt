@@ -27,5 +27,7 @@ pub use order::Order;
 pub use order::higher;
 pub use refusal::Refusal;
 pub use refusal::RefusalDebug;
+pub use refusal::RefusalFromAlloc;
+pub use refusal::RefusalFromRefused;
 pub use refusal::RefusalPartialEq;
 pub use spelling::Spelling;

@@ -1,6 +1,9 @@
 // Why a call was refused.
 ghost use mathlib.Core.Path.{_≡_};
 ghost use Rattle.marks.specs.Refusals.{number, placed};
+ghost use Rattle.marks.specs.declared.refusal.Refusal.the-variants.{NoMemory};
+use std::alloc::AllocError;
+use std::alloc::Refused;
 
 #[derive(Clone, Copy, PartialEq, Eq, Debug)]
 pub enum Refusal {
@@ -62,5 +65,21 @@ impl Refusal {
             Refusal::Text(place) => place,
             _ => 0,
         }
+    }
+}
+
+pub impl From<AllocError> for Refusal as RefusalFromAlloc {
+    ghost converts = { λ _ r. r ≡ NoMemory };
+
+    fn from(_e: AllocError) -> Refusal {
+        Refusal::NoMemory
+    }
+}
+
+pub impl<T: Drop> From<Refused<T>> for Refusal as RefusalFromRefused {
+    ghost converts = { λ _ r. r ≡ NoMemory };
+
+    fn from(_e: Refused<T>) -> Refusal {
+        Refusal::NoMemory
     }
 }

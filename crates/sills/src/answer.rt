@@ -1,0 +1,47 @@
+// The program's answer to an input: the text that it prints, or a refusal.
+use crate::fill::filled;
+use crate::input::Input;
+use crate::input::MOST_BYTES;
+use crate::input::MOST_CELLS;
+use crate::input::keeps_rules;
+use crate::input::read_input;
+use crate::output::write_answer;
+use marks::CodedMark;
+use marks::Refusal;
+use marks::Class;
+use marks::Height;
+use std::alloc::AllocError;
+use std::alloc::Global;
+
+// Fills the sheet that was read, and writes it.
+fn fill_and_write<M: CodedMark>(heap: Global, input: &Input<M>) -> Result<Vec<u8>, Refusal> {
+    if input.cells() > MOST_CELLS {
+        return Err(Refusal::Size);
+    }
+    if !keeps_rules(input.rows, input.down.as_slice()) || !keeps_rules(input.cols, input.across.as_slice()) {
+        return Err(Refusal::CutRule);
+    }
+    let Ok(levels) = filled(heap, input) else {
+        return Err(Refusal::NoMemory);
+    };
+    match write_answer(heap, input, levels.as_slice()) {
+        Ok(text) => Ok(text),
+        Err(_) => Err(Refusal::NoMemory),
+    }
+}
+
+// Reads the input as a sheet of heights or, failing that, of classes: the place of a refusal is the later of the two.
+pub(crate) fn answer(heap: Global, bytes: &[u8]) -> Result<Vec<u8>, Refusal> {
+    if bytes.len() > MOST_BYTES {
+        return Err(Refusal::Size);
+    }
+    match read_input::<Height>(heap, bytes) {
+        Ok(input) => fill_and_write(heap, &input),
+        Err(Refusal::Text(first)) => match read_input::<Class>(heap, bytes) {
+            Ok(input) => fill_and_write(heap, &input),
+            Err(Refusal::Text(second)) => Err(Refusal::Text(first.max(second))),
+            Err(other) => Err(other),
+        },
+        Err(other) => Err(other),
+    }
+}
