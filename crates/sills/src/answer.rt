@@ -1,33 +1,31 @@
 // The program's answer to an input: the text that it prints, or a refusal.
-use crate::fill::filled;
+use crate::fill::levels;
 use crate::input::Input;
 use crate::input::MOST_BYTES;
 use crate::input::MOST_CELLS;
 use crate::input::keeps_rules;
 use crate::input::read_input;
-use crate::output::write_answer;
-use marks::CodedMark;
-use marks::Refusal;
+use crate::output::written;
 use marks::Class;
+use marks::CodedMark;
 use marks::Height;
-use std::alloc::AllocError;
+use marks::Refusal;
 use std::alloc::Global;
+use marks::ClassCoded;
+use marks::HeightCoded;
 
 // Fills the sheet that was read, and writes it.
-fn fill_and_write<M: CodedMark>(heap: Global, input: &Input<M>) -> Result<Vec<u8>, Refusal> {
-    if input.cells() > MOST_CELLS {
+fn filled<M: CodedMark>(heap: Global, input: &Input<M>) -> Result<Vec<u8>, Refusal> {
+    if input.marks.len() > MOST_CELLS {
         return Err(Refusal::Size);
     }
-    if !keeps_rules(input.rows, input.down.as_slice()) || !keeps_rules(input.cols, input.across.as_slice()) {
+    if !keeps_rules(input.rows, input.down.as_slice())
+        || !keeps_rules(input.cols, input.across.as_slice())
+    {
         return Err(Refusal::CutRule);
     }
-    let Ok(levels) = filled(heap, input) else {
-        return Err(Refusal::NoMemory);
-    };
-    match write_answer(heap, input, levels.as_slice()) {
-        Ok(text) => Ok(text),
-        Err(_) => Err(Refusal::NoMemory),
-    }
+    let levels = levels(heap, input)?;
+    written(heap, input, levels.as_slice())
 }
 
 // Reads the input as a sheet of heights or, failing that, of classes: the place of a refusal is the later of the two.
@@ -36,9 +34,9 @@ pub(crate) fn answer(heap: Global, bytes: &[u8]) -> Result<Vec<u8>, Refusal> {
         return Err(Refusal::Size);
     }
     match read_input::<Height>(heap, bytes) {
-        Ok(input) => fill_and_write(heap, &input),
+        Ok(input) => filled(heap, &input),
         Err(Refusal::Text(first)) => match read_input::<Class>(heap, bytes) {
-            Ok(input) => fill_and_write(heap, &input),
+            Ok(input) => filled(heap, &input),
             Err(Refusal::Text(second)) => Err(Refusal::Text(first.max(second))),
             Err(other) => Err(other),
         },
