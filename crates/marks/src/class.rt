@@ -65,6 +65,6 @@ pub impl Mark for Class as ClassMark {
     ghost lowest = { Void };
 
     fn void() -> Class {
-        Class::Void
+        Self::Void
     }
 }
