@@ -1,5 +1,5 @@
 // The program's answer to an input: the text that it prints, or a refusal.
-use crate::fill::levels;
+use crate::fill::fill;
 use crate::input::Input;
 use crate::input::MOST_BYTES;
 use crate::input::MOST_CELLS;
@@ -15,7 +15,7 @@ use marks::ClassCoded;
 use marks::HeightCoded;
 
 // Fills the sheet that was read, and writes it.
-fn filled<M: CodedMark>(heap: Global, input: &Input<M>) -> Result<Vec<u8>, Refusal> {
+fn filled_text<M: CodedMark>(heap: Global, mut input: Input<M>) -> Result<Vec<u8>, Refusal> {
     if input.marks.len() > MOST_CELLS {
         return Err(Refusal::Size);
     }
@@ -24,8 +24,8 @@ fn filled<M: CodedMark>(heap: Global, input: &Input<M>) -> Result<Vec<u8>, Refus
     {
         return Err(Refusal::CutRule);
     }
-    let levels = levels(heap, input)?;
-    written(heap, input, levels.as_slice())
+    let filled = fill(heap, &mut input)?;
+    written(heap, &input, &filled)
 }
 
 // Reads the input as a sheet of heights or, failing that, of classes: the place of a refusal is the later of the two.
@@ -34,9 +34,9 @@ pub(crate) fn answer(heap: Global, bytes: &[u8]) -> Result<Vec<u8>, Refusal> {
         return Err(Refusal::Size);
     }
     match read_input::<Height>(heap, bytes) {
-        Ok(input) => filled(heap, &input),
+        Ok(input) => filled_text(heap, input),
         Err(Refusal::Text(first)) => match read_input::<Class>(heap, bytes) {
-            Ok(input) => filled(heap, &input),
+            Ok(input) => filled_text(heap, input),
             Err(Refusal::Text(second)) => Err(Refusal::Text(first.max(second))),
             Err(other) => Err(other),
         },

@@ -1,98 +1,91 @@
-// Filling a whole sheet at once.
+// Filling the sheet that was read.
 use crate::input::Input;
+use flood::Entry;
 use marks::CodedMark;
 use marks::Refusal;
 use marks::RefusalFromRefused;
-use marks::higher;
+use sheets::Raster;
+use sheets::RasterSheet;
+use sheets::RasterWritable;
+use sheets::Sheet;
+use sheets::WritableSheet;
 use std::alloc::Global;
+use terrain::Scratch;
+use terrain::fill_sheet;
 
-// The lower of two levels, where the first may not be known yet.
-fn lower<M: CodedMark>(known: Option<M>, level: M) -> M {
-    match known {
-        Some(old) => {
-            if old.at_most(&level) {
-                old
-            } else {
-                level
-            }
-        }
-        None => level,
-    }
+// A filled sheet, row by row, and how many of its cells rose.
+#[derive(Drop)]
+pub(crate) struct Filled<M> {
+    pub(crate) marks: Vec<M>,
+    pub(crate) raised: usize,
 }
 
-// Whether a cell lies on the sheet's edge.
-fn on_edge<M>(input: &Input<M>, row: usize, col: usize) -> bool {
-    row == 0 || col == 0 || row.saturating_add(1) >= input.rows || col.saturating_add(1) >= input.cols
+// As many copies of a value.
+fn copies<T: Copy>(heap: Global, value: T, n: usize) -> Result<Vec<T>, Refusal> {
+    let mut all = Vec::new(heap);
+    for _ in 0..n {
+        all.push(value)?;
+    }
+    Ok(all)
 }
 
-// The least level at which a cell runs off, as far as the levels of the cells that it touches are known.
-fn relaxed<M: CodedMark>(
-    input: &Input<M>,
-    levels: &[Option<M>],
-    row: usize,
-    col: usize,
-    mark: M,
-) -> Option<M> {
-    let mut least = None;
-    if on_edge(input, row, col) {
-        least = Some(mark);
-    }
-    for r in row.saturating_sub(1)..row.saturating_add(2).min(input.rows) {
-        for c in col.saturating_sub(1)..col.saturating_add(2).min(input.cols) {
-            if let Some(Some(level)) = levels.get(input.place(r, c)) {
-                least = Some(lower(least, higher(*level, mark)));
-            }
-        }
-    }
-    least
-}
-
-// Lowers the level of one cell, and says whether it changed.
-fn relax<M: CodedMark>(input: &Input<M>, levels: &mut [Option<M>], row: usize, col: usize) -> bool {
-    let place = input.place(row, col);
-    if place >= levels.len() || place >= input.marks.len() {
-        return false;
-    }
-    let Some(level) = relaxed(input, levels, row, col, input.marks[place]) else {
-        return false;
+// Fills one sheet into another, with slices to work in.
+fn fill_with<S: Sheet, T: WritableSheet<Mark = S::Mark>>(
+    source: &S,
+    target: &mut T,
+    marks: &mut [S::Mark],
+    levels: &mut [Option<S::Mark>],
+    origins: &mut [Option<usize>],
+    heap: &mut [Entry<S::Mark>],
+) -> Result<usize, Refusal> {
+    let mut scratch = Scratch {
+        marks,
+        levels,
+        origins,
+        heap,
     };
-    let known = levels[place];
-    if let Some(known) = known {
-        if known.at_most(&level) {
-            return false;
-        }
-    }
-    levels[place] = Some(level);
-    true
+    fill_sheet(source, target, &mut scratch)
 }
 
-// Lowers the level of each cell once, and says whether one changed.
-fn sweep<M: CodedMark>(input: &Input<M>, levels: &mut [Option<M>]) -> bool {
-    let mut changed = false;
-    for row in 0..input.rows {
-        for col in 0..input.cols {
-            if relax(input, levels, row, col) {
-                changed = true;
-            }
-        }
-    }
-    changed
+// Fills one slice of marks into another, with slices to work in.
+fn fill_slices<M: CodedMark>(
+    rows: usize,
+    cols: usize,
+    from: &mut [M],
+    to: &mut [M],
+    marks: &mut [M],
+    levels: &mut [Option<M>],
+    origins: &mut [Option<usize>],
+    heap: &mut [Entry<M>],
+) -> Result<usize, Refusal> {
+    let source = Raster::new(rows, cols, from)?;
+    let mut target = Raster::new(rows, cols, to)?;
+    fill_with(&source, &mut target, marks, levels, origins, heap)
 }
 
-// The level of each cell: the least, over the ways to the sheet's edge, of the highest mark on the way.
-pub(crate) fn levels<M: CodedMark>(
-    heap: Global,
-    input: &Input<M>,
-) -> Result<Vec<Option<M>>, Refusal> {
+// Fills the sheet, with memory of just its size to work in.
+pub(crate) fn fill<M: CodedMark>(heap: Global, input: &mut Input<M>) -> Result<Filled<M>, Refusal> {
+    let void = M::void();
     let n = input.marks.len();
-    let mut levels = Vec::new(heap);
-    for _ in 0..n {
-        levels.push(None)?;
-    }
-    for _ in 0..n {
-        if !sweep(input, levels.as_mut_slice()) {
-            break;
-        }
-    }
-    Ok(levels)
+    let entry = Entry {
+        level: void,
+        node: 0,
+        origin: 0,
+    };
+    let mut marks = copies(heap, void, n)?;
+    let mut scratch = copies(heap, void, n)?;
+    let mut levels = copies(heap, None, n)?;
+    let mut origins = copies(heap, None, n)?;
+    let mut entries = copies(heap, entry, n)?;
+    let raised = fill_slices(
+        input.rows,
+        input.cols,
+        input.marks.as_mut_slice(),
+        marks.as_mut_slice(),
+        scratch.as_mut_slice(),
+        levels.as_mut_slice(),
+        origins.as_mut_slice(),
+        entries.as_mut_slice(),
+    )?;
+    Ok(Filled { marks, raised })
 }

@@ -22,13 +22,6 @@ pub(crate) struct Input<M> {
     pub(crate) across: Vec<usize>,
 }
 
-impl<M> Input<M> {
-    // Where a cell stands among the marks.
-    pub(crate) fn place(&self, row: usize, col: usize) -> usize {
-        row.wrapping_mul(self.cols).wrapping_add(col)
-    }
-}
-
 // Reads a word at `at`, and answers where it ends.
 fn word(bytes: &[u8], at: usize, word: &[u8]) -> Result<usize, Refusal> {
     match literal(bytes, at, word) {

@@ -1,0 +1,9 @@
+pub mod Sifts
+pub mod Lexical
+pub mod Counts
+pub mod Places
+pub mod Accepted
+pub mod Laws
+pub mod Routes
+pub mod Spread
+pub mod Ends

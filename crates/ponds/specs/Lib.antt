@@ -1,0 +1,2 @@
+pub mod Ponds
+pub mod Laws

@@ -1,0 +1,10 @@
+pub mod Marks
+pub mod Walks
+pub mod Sills
+pub mod Counts
+pub mod Surfaces
+pub mod Bridges
+pub mod Rows
+pub mod Floods
+pub mod Raises
+pub mod Fillings

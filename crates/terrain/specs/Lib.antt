@@ -1,0 +1,12 @@
+pub mod Ways
+pub mod Under
+pub mod Filled
+pub mod Cells
+pub mod Blocks
+pub mod Neighbours
+pub mod CellGrounds
+pub mod NeighbourLaws
+pub mod CellLaws
+pub mod Terrains
+pub mod Fills
+pub mod Levels
