@@ -1,19 +1,18 @@
 -- Calls of the heap that are not refused. Assumes nothing.
 use mathlib.Core.Bool.{Bool, true, false, not}
-use mathlib.Core.List.{List, [], _∷_}
-use mathlib.Core.Path.{_≡_, refl, sym, ap, subst, _∙_}
+use mathlib.Core.List.{[], _∷_}
+use mathlib.Core.Path.{_≡_, refl, ap, _∙_}
 use Prim.Native.Nat.{ℕ, _<_}
 use native.Mathlib.Omega.{arith}
-use lib.ListN.{length, take, length-take}
-use denote.Ref.{now}
-use Rattle.std.specs.declared.option.Option.the-variants.{Some, None}
+use lib.ListN.{length, length-take}
+use Rattle.std.specs.declared.option.Option.the-variants.{Some}
 use Rattle.std.specs.declared.result.Result.{Result}
 use Rattle.std.specs.declared.result.Result.the-variants.{Ok, Err}
 use Rattle.std.specs.shelf.Maps.{nth}
 use Rattle.std.proofs.shelf.Tests.{lt-leb}
 use Rattle.marks.specs.Refusals.{Told, Told.accepted, Told.refused, told, checked, number, placed}
 use Rattle.marks.specs.declared.refusal.Refusal.{Refusal}
-use Rattle.flood.specs.Entries.{before, lexical}
+use Rattle.flood.specs.Entries.{before}
 use Rattle.flood.specs.Heaps.{contents, room, full, above, Put, Lowered}
 use Rattle.flood.specs.declared.entry.Entry.{Entry}
 use Rattle.flood.specs.declared.heap.Heap.{Heap}

@@ -1,27 +1,24 @@
 -- How a flood begins and ends, and what it counts. Assumes nothing.
-use mathlib.Core.Bool.{Bool, true, false, cond, not}
-use mathlib.Core.List.{List, [], _∷_, _++_}
-use mathlib.Core.Logic.{_⊎_, inl, inr, ⊎-elim}
+use mathlib.Core.Bool.{true, cond, not}
+use mathlib.Core.List.{List, [], _∷_}
+use mathlib.Core.Logic.{inl, ⊎-elim}
 use mathlib.Core.Path.{_≡_, refl, sym, ap, subst, _∙_}
-use Prim.Native.Nat.{ℕ, suc, _<_, _≤_, _+_}
+use Prim.Native.Nat.{ℕ, _<_, _≤_, _+_}
 use native.Mathlib.Omega.{arith}
-use lib.ListN.{length, getD, set, take, drop, length-take}
+use lib.ListN.{length, getD, set, take, length-take}
 use lib.Seq.{getD-set-same, getD-set-other, take-set-lt, getD-take}
 use Rattle.std.specs.Options.{isSome}
 use Rattle.std.specs.declared.option.Option.{Option}
 use Rattle.std.specs.declared.option.Option.the-variants.{Some, None}
-use Rattle.std.specs.shelf.Lists.{All}
-use Rattle.std.specs.shelf.Maps.{nth}
 use Rattle.std.specs.shelf.Sorted.{Shuffled}
 use Rattle.std.proofs.shelf.Elements.{all-weaker}
 use Rattle.std.proofs.shelf.Lists.{take-more-set}
 use Rattle.std.proofs.shelf.Sorted.{all-shuffled}
 use Rattle.std.proofs.shelf.Sums.{sumBy-set, sumBy-push}
 use Rattle.std.proofs.shelf.Tests.{cases-eq}
-use Rattle.marks.specs.Orders.{highest}
-use Rattle.flood.specs.Grounds.{Graph, Crosses, Drains, LeastWorst, Found, Flooded}
+use Rattle.flood.specs.Grounds.{Graph, Drains, LeastWorst, Found, Flooded}
 use Rattle.flood.specs.Queues.{times, Kept}
-use Rattle.flood.specs.State.{missing, Met, Passed, Reached, Cell, Waits, Going, Filling}
+use Rattle.flood.specs.State.{missing, Reached, Cell, Going, Filling}
 use Rattle.flood.specs.declared.entry.Entry.{Entry}
 use Rattle.flood.proofs.Counts.{some-same, none-some, times-yes, times-no, times-none, times-shuffled}
 use Rattle.flood.proofs.Laws.{Lawful}

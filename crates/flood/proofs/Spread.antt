@@ -1,9 +1,9 @@
 -- The steps of a flood keep what holds while it goes on. Assumes nothing.
-use mathlib.Core.Bool.{Bool, true, false, cond}
+use mathlib.Core.Bool.{true, false}
 use mathlib.Core.List.{List, [], _∷_, _++_}
-use mathlib.Core.Logic.{_⊎_, inl, inr, ⊎-elim}
+use mathlib.Core.Logic.{inl, inr, ⊎-elim}
 use mathlib.Core.Path.{_≡_, refl, sym, ap, subst, _∙_}
-use Prim.Native.Nat.{ℕ, zero, suc, _<_, _≤_, _+_}
+use Prim.Native.Nat.{ℕ, suc, _<_, _≤_, _+_}
 use native.Mathlib.Omega.{arith}
 use lib.ListN.{length, getD, set, take, drop}
 use lib.Seq.{getD-set-same, getD-set-other}
@@ -18,9 +18,9 @@ use Rattle.std.proofs.shelf.Maps.{nth-past}
 use Rattle.std.proofs.shelf.Sorted.{shuffled-refl, shuffled-cons, shuffled-swap, shuffled-trans, shuffled-sym, all-shuffled}
 use Rattle.std.proofs.shelf.Tests.{cases-eq, cases-lt, both-ways}
 use Rattle.marks.specs.Orders.{highest}
-use Rattle.flood.specs.Grounds.{Graph, Crosses, Drains}
+use Rattle.flood.specs.Grounds.{Graph}
 use Rattle.flood.specs.Queues.{times, Kept}
-use Rattle.flood.specs.State.{Met, Passed, Reached, Cell, Waits, Going, Spreading}
+use Rattle.flood.specs.State.{Met, Reached, Cell, Waits, Going, Spreading}
 use Rattle.flood.specs.declared.entry.Entry.{Entry}
 use Rattle.flood.proofs.Counts.{some-same, none-some, nth-inside, nth-is, all-nth, times-yes, times-no, times-shuffled, times-none, times-apart}
 use Rattle.flood.proofs.Laws.{Lawful}

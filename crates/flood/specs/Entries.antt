@@ -1,6 +1,5 @@
 -- The order of two entries: by the level, among equal levels by the node, and then by the origin. Assumes nothing.
 use mathlib.Core.Bool.{Bool, true, false, cond}
-use Prim.Native.Nat.{ℕ}
 use lib.Dec.{leb}
 use Rattle.flood.specs.declared.entry.Entry.{Entry}
 

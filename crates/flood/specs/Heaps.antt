@@ -1,10 +1,10 @@
 -- What the contracts of `Heap` cite. Assumes nothing.
 use mathlib.Core.Path.{_≡_}
-use mathlib.Core.Bool.{Bool, true, false, not, cond}
+use mathlib.Core.Bool.{Bool, true, not}
 use mathlib.Core.List.{List, _∷_}
 use Prim.Native.Nat.{ℕ, _+_, _≤_, _<_}
 use lib.Dec.{leb}
-use lib.ListN.{length, getD, set, take}
+use lib.ListN.{length, set, take}
 use denote.Ref.{now}
 use Rattle.std.specs.Slices.{Shuffled}
 use Rattle.std.specs.shelf.Lists.{All}

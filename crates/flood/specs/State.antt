@@ -1,17 +1,17 @@
 -- What holds while a flood goes on. Assumes nothing.
 use mathlib.Core.Bool.{Bool, true, false, not}
-use mathlib.Core.List.{List, []}
+use mathlib.Core.List.{List}
 use mathlib.Core.Logic.{_⊎_}
 use mathlib.Core.Path.{_≡_}
 use Prim.Native.Nat.{ℕ, _+_, _<_, _≤_}
-use lib.ListN.{length, getD, take}
+use lib.ListN.{getD, take}
 use Rattle.std.specs.Options.{isSome}
 use Rattle.std.specs.declared.option.Option.{Option}
 use Rattle.std.specs.declared.option.Option.the-variants.{Some, None}
 use Rattle.std.specs.shelf.Lists.{All, countBy}
 use Rattle.std.specs.shelf.Maps.{nth}
 use Rattle.marks.specs.Orders.{highest}
-use Rattle.flood.specs.Grounds.{Graph, Crosses, Drains}
+use Rattle.flood.specs.Grounds.{Graph, Drains}
 use Rattle.flood.specs.Heaps.{room}
 use Rattle.flood.specs.Queues.{times, Ready}
 use Rattle.flood.specs.declared.entry.Entry.{Entry}
@@ -67,11 +67,6 @@ pub record Filling {M : Type 0} (g : Graph M) (i : ℕ) (ls : List (Option M)) (
   pub waiting : All (λ x. (x .node < i) × (getD ls (x .node) None ≡ Some (x .level)) × Reached g (x .node) (x .level) (x .origin)) q
   pub once : (v : ℕ) → times v q ≤ 1
   pub queued : (v : ℕ) (k : M) → v < i → getD ls v None ≡ Some k → times v q ≡ 1
-
--- a turn begins, or nothing waits
-abbrev pub Turn : {M : Type 0} → Graph M → Option (Entry M) → List (Option M) → List (Option ℕ) → List (Entry M) → Type 0
-Turn g None ls os q = Going g ls os []
-Turn g (Some x) ls os q = Spreading g x 0 ls os q
 
 -- the crossings passed, after one was tried at j
 abbrev pub onward : Bool → ℕ → ℕ

@@ -1,20 +1,16 @@
 // The flood itself: Priority-Flood over any ground.
 ghost use mathlib.Core.Bool.{true, false};
-ghost use mathlib.Core.List.{List, [], _∷_};
+ghost use mathlib.Core.List.{[], _∷_};
 ghost use mathlib.Core.Path.{_≡_};
-ghost use Prim.Native.Nat.{ℕ, _+_, _<_, _≤_};
-ghost use lib.Dec.{T};
-ghost use lib.ListN.{length, getD, set, drop};
-ghost use Rattle.std.specs.Options.{Cases as BySome};
-ghost use Rattle.std.specs.declared.option.Option.{Option};
-ghost use Rattle.std.specs.declared.option.Option.the-variants.{Some, None};
+ghost use Prim.Native.Nat.{_+_, _<_, _≤_};
+ghost use lib.ListN.{length, drop};
 ghost use Rattle.marks.specs.Refusals.{told, checked};
 ghost use Rattle.flood.specs.Calls.{short, Leaves};
-ghost use Rattle.flood.specs.Grounds.{graph, Flooded};
+ghost use Rattle.flood.specs.Grounds.{Flooded};
 ghost use Rattle.flood.specs.Heaps.{room};
 ghost use Rattle.flood.specs.Of.{graph-of};
 ghost use Rattle.flood.specs.Queues.{waiting, Ready};
-ghost use Rattle.flood.specs.State.{missing, onward, Going, Spreading, Turn, Roomy};
+ghost use Rattle.flood.specs.State.{missing, onward, Going, Spreading, Roomy};
 use crate::entry::Entry;
 use crate::ground::Ground;
 use crate::queue::Queue;

@@ -7,12 +7,12 @@ use crate::input::keeps_rules;
 use crate::input::read_input;
 use crate::output::written;
 use marks::Class;
+use marks::ClassCoded;
 use marks::CodedMark;
 use marks::Height;
+use marks::HeightCoded;
 use marks::Refusal;
 use std::alloc::Global;
-use marks::ClassCoded;
-use marks::HeightCoded;
 
 // Fills the sheet that was read, and writes it.
 fn filled_text<M: CodedMark>(heap: Global, mut input: Input<M>) -> Result<Vec<u8>, Refusal> {

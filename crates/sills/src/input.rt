@@ -7,9 +7,13 @@ use marks::RefusalFromRefused;
 use std::alloc::Global;
 
 pub(crate) const MOST_BYTES: usize = 60_000;
+
 pub(crate) const MOST_CELLS: usize = 4_096;
+
 const MOST_SIDE: u32 = 2_048;
+
 const MOST_CUTS: usize = 31;
+
 const MOST_BAND: usize = 64;
 
 // A sheet, row by row, and where its bands of rows and of columns begin.

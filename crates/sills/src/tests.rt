@@ -47,18 +47,64 @@ fn refuses_text(rt: LibcRuntime) -> Result<(), Fail> {
     refused(heap, "(sheet classy 1 1\n", 8, 12)?;
     refused(heap, "(sheet heights", 8, 13)?;
     refused(heap, "(sheet class 1 1\n(row x)\n", 8, 22)?;
-    refused(heap, "(sheet class 1 1\n(row o)\n)\n(cuts (down) (across))\n ", 8, 50)
+    refused(
+        heap,
+        "(sheet class 1 1\n(row o)\n)\n(cuts (down) (across))\n ",
+        8,
+        50,
+    )
 }
 
 // A size, and then a rule for cuts, is asked only of an input that is read.
 #[test]
 fn refuses_cuts(rt: LibcRuntime) -> Result<(), Fail> {
     let heap = rt.alloc();
-    refused(heap, "(sheet class 1 2\n(row o s)\n)\n(cuts (down) (across 2))\n", 2, 0)?;
-    refused(heap, "(sheet class 1 2\n(row o s)\n)\n(cuts (down 1) (across))\n", 2, 0)?;
+    refused(
+        heap,
+        "(sheet class 1 2\n(row o s)\n)\n(cuts (down) (across 2))\n",
+        2,
+        0,
+    )?;
+    refused(
+        heap,
+        "(sheet class 1 2\n(row o s)\n)\n(cuts (down 1) (across))\n",
+        2,
+        0,
+    )?;
     printed(
         heap,
         "(sheet class 1 2\n(row o s)\n)\n(cuts (down) (across 1))\n",
         "(sheet class 1 2\n(row o s)\n)\n(raised 0)\n",
+    )
+}
+
+// Sheets small enough to check by hand.
+#[test]
+fn small_sheets(rt: LibcRuntime) -> Result<(), Fail> {
+    let heap = rt.alloc();
+    printed(
+        heap,
+        "(sheet height 1 1\n(row 7)\n)\n(cuts (down) (across))\n",
+        "(sheet height 1 1\n(row 7)\n)\n(raised 0)\n",
+    )?;
+    printed(
+        heap,
+        "(sheet height 1 1\n(row .)\n)\n(cuts (down) (across))\n",
+        "(sheet height 1 1\n(row .)\n)\n(raised 0)\n",
+    )?;
+    printed(
+        heap,
+        "(sheet height 1 4\n(row 3 -1 . 2)\n)\n(cuts (down) (across))\n",
+        "(sheet height 1 4\n(row 3 -1 . 2)\n)\n(raised 0)\n",
+    )?;
+    printed(
+        heap,
+        "(sheet height 3 3\n(row 5 5 5)\n(row 5 1 5)\n(row 5 5 5)\n)\n(cuts (down) (across))\n",
+        "(sheet height 3 3\n(row 5 5 5)\n(row 5 5 5)\n(row 5 5 5)\n)\n(raised 1)\n",
+    )?;
+    printed(
+        heap,
+        "(sheet height 3 3\n(row 2 5 5)\n(row 5 1 5)\n(row 5 5 5)\n)\n(cuts (down) (across))\n",
+        "(sheet height 3 3\n(row 2 5 5)\n(row 5 2 5)\n(row 5 5 5)\n)\n(raised 1)\n",
     )
 }

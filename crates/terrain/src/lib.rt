@@ -4,6 +4,8 @@ mod fill;
 mod ground;
 mod levels;
 mod scratch;
+#[cfg(test)]
+mod tests;
 
 pub use blocks::read_block;
 pub use blocks::write_block;

@@ -1,13 +1,13 @@
 -- The bands of a lawfully cut side. Assumes nothing.
 use mathlib.Core.Path.{_≡_, refl, sym, ap, _∙_}
-use mathlib.Core.Bool.{Bool, true, false, cond, _&&_}
+use mathlib.Core.Bool.{true, false, _&&_}
 use mathlib.Core.List.{List, [], _∷_}
 use mathlib.Core.Logic.{_⊎_, ⊎-elim}
 use Prim.Native.Nat.{ℕ, zero, suc, _+_, _-_, _<_, _≤_}
 use native.Mathlib.Omega.{arith}
 use native.Mathlib.Nat.{add-zero}
 use native.Mathlib.Numerals.{add-one}
-use lib.Dec.{leb, ltb, eqb}
+use lib.Dec.{leb, ltb}
 use lib.ListN.{length, getD, take, drop}
 use Rattle.std.proofs.shelf.Tests.{le-leb, lt-leb, ltb-true, leb-true, and-parts, cases-order, cases-lt, cases-eq, eq-eqb, ne-eqb}
 use Rattle.std.proofs.shelf.Lists.{drop-more, drop-all, getD-past, getD-default, getD-take, length-take-le}

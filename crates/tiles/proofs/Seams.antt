@@ -1,21 +1,21 @@
 -- Cells on the sheet's edge and on both sides of a seam are mouths. Assumes nothing.
-use mathlib.Core.Path.{_≡_, refl, sym, ap, _∙_}
-use mathlib.Core.Bool.{Bool, true, false, _&&_}
+use mathlib.Core.Path.{_≡_, sym, ap, _∙_}
+use mathlib.Core.Bool.{true}
 use mathlib.Core.List.{List}
 use mathlib.Core.Logic.{_⊎_, inl, inr, ⊎-elim}
-use Prim.Native.Nat.{ℕ, zero, suc, _+_, _-_, _*_, _<_, _≤_}
+use Prim.Native.Nat.{ℕ, suc, _+_, _-_, _*_, _<_}
 use native.Mathlib.Omega.{arith}
 use native.Mathlib.Nat.{one-mul, mul-one}
 use native.Mathlib.Numerals.{add-one}
 use Rattle.std.proofs.shelf.Tests.{and-from, cases-eq, cases-lt}
 use Rattle.tiles.specs.Rules.{lawful, start, bandOf}
-use Rattle.tiles.specs.Plans.{Plan, Lawful, Area, abreast, tiles, tileAt, tileOf, crossing, holds, height, width}
-use Rattle.tiles.specs.Mouths.{onBorder, border, mouthIn, tileMouths, mouthBase, isMouth}
+use Rattle.tiles.specs.Plans.{Plan, Lawful, abreast, tileAt, tileOf, crossing, holds, height, width}
+use Rattle.tiles.specs.Mouths.{onBorder, border, mouthIn, mouthBase, isMouth}
 use Rattle.tiles.specs.Laws.{Near, Numbered}
 use Rattle.tiles.proofs.Borders.{border-top, border-bottom, border-left, border-right, border-row, border-column, border-ring}
 use Rattle.tiles.proofs.Bands.{band-low, band-high, band-is, start-below}
 use Rattle.tiles.proofs.Tilings.{tile-at, tile-exists, tile-holds}
-use Rattle.tiles.proofs.Numberings.{base-none, base-more, mouths-some}
+use Rattle.tiles.proofs.Numberings.{base-none, base-more, base-many, mouths-some}
 use Rattle.tiles.proofs.Indices.{number-between, number-below, number-found, number-apart, number-owner, number-reading, mouth-number, number-mouth}
 
 -- a place is the first or the last of its band
@@ -109,6 +109,7 @@ numbered p l = record {
   some = λ t lt. mouths-some p t l lt;
   first = base-none p;
   next = λ t. base-more p t;
+  pass = λ t lt. omega (arith, base-more p t, base-many p t l (omega arith), mouths-some p t l lt);
   interval = λ i j a e. let b = number-between p i j a e in (tile-exists p i j, b .low, omega (arith, b .high, ap (mouthBase p) (add-one (tileOf p i j))), number-below p i j a e);
   owner = λ i j a t e low high. number-owner p i j a t e low high;
   reading = λ i j k n a b e f same before. number-reading p i j k n a b e f same before;

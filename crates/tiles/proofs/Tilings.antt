@@ -1,7 +1,7 @@
 -- The tiles of a lawful plan cover the sheet. Assumes nothing.
-use mathlib.Core.Path.{_≡_, refl, sym, ap, _∙_}
-use mathlib.Core.Bool.{Bool, true, false, _&&_, _||_}
-use Prim.Native.Nat.{ℕ, zero, suc, _+_, _-_, _*_, _/_, _%_, _<_, _≤_}
+use mathlib.Core.Path.{_≡_, sym, ap, _∙_}
+use mathlib.Core.Bool.{true, false, _&&_}
+use Prim.Native.Nat.{ℕ, suc, _+_, _-_, _*_, _/_, _%_, _<_, _≤_}
 use native.Mathlib.Omega.{arith}
 use mathlib.Core.Logic.{⊎-elim}
 use native.Mathlib.Nat.{zero-mul, suc-mul}
@@ -13,7 +13,7 @@ use Rattle.std.specs.declared.option.Option.the-variants.{Some}
 use Rattle.tiles.specs.declared.cuts.CutList.{CutList}
 use Rattle.tiles.specs.declared.places.Spot.{Spot}
 use Rattle.tiles.specs.Rules.{lawful, sideOutside, start, bandOf}
-use Rattle.tiles.specs.Plans.{Plan, Lawful, Area, planOf, abreast, tiles, tileAt, tileOf, crossing, holds, height, width, onSheet, spotOf}
+use Rattle.tiles.specs.Plans.{Plan, Lawful, Area, planOf, abreast, tiles, tileAt, tileOf, crossing, holds, onSheet, spotOf}
 use Rattle.tiles.specs.Laws.{Tiled}
 use Rattle.tiles.proofs.Bands.{Band, band, band-few, band-low, band-high, band-is, lawful-few, start-below, start-past}
 

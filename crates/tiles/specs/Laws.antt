@@ -1,11 +1,11 @@
 -- What holds of the tiles and mouths of every cut list. Assumes nothing.
 use mathlib.Core.Path.{_≡_}
-use mathlib.Core.Bool.{Bool, true}
+use mathlib.Core.Bool.{true}
 use mathlib.Core.Logic.{_⊎_}
 use Prim.Native.Nat.{ℕ, _+_, _-_, _*_, _≤_, _<_}
 use Rattle.std.specs.declared.option.Option.the-variants.{Some}
 use Rattle.tiles.specs.Plans.{Plan, tiles, tileAt, tileOf, holds, height, width}
-use Rattle.tiles.specs.Mouths.{mouths, mouthBase, tileMouths, isMouth, mouthNumber}
+use Rattle.tiles.specs.Mouths.{mouths, mouthBase, passBase, tileMouths, isMouth, mouthNumber}
 
 -- two places on one line are the same or next to each other
 abbrev pub Near : ℕ → ℕ → Type 0
@@ -34,14 +34,15 @@ pub record Tiled (p : Plan) : Type 0 where
 -- The mouths are numbered tile after tile (`first`, `next`), each tile's in reading order (`reading`); a tile's numbers
 -- are those from its first up to the next tile's first (`interval`, `owner`); every number below the count is that of
 -- one cell (`found`, `single`), and every cell on its tile's border has one (`mouth`, `only`). A tile of one row or one
--- column is all mouths (`line`), any other has its ring (`ring`). Cells on the sheet's edge (`edge`), and any two
--- touching cells of different tiles (`seam`), are mouths.
+-- column is all mouths (`line`), any other has its ring (`ring`); each has a mouth (`some`), and one pass fewer than
+-- mouths (`pass`). Cells on the sheet's edge (`edge`), and any two touching cells of different tiles (`seam`), are mouths.
 pub record Numbered (p : Plan) : Type 0 where
   pub line : (t : ℕ) → t < tiles p → (height (tileAt p t) ≡ 1) ⊎ (width (tileAt p t) ≡ 1) → tileMouths p t ≡ height (tileAt p t) * width (tileAt p t)
   pub ring : (t : ℕ) → t < tiles p → 2 ≤ height (tileAt p t) → 2 ≤ width (tileAt p t) → tileMouths p t ≡ 2 * (height (tileAt p t) + width (tileAt p t)) - 4
   pub some : (t : ℕ) → t < tiles p → 1 ≤ tileMouths p t
   pub first : mouthBase p 0 ≡ 0
   pub next : (t : ℕ) → mouthBase p (t + 1) ≡ mouthBase p t + tileMouths p t
+  pub pass : (t : ℕ) → t < tiles p → passBase p (t + 1) ≡ passBase p t + (tileMouths p t - 1)
   pub interval : (i j a : ℕ) → mouthNumber p i j ≡ Some a → (tileOf p i j < tiles p) × (mouthBase p (tileOf p i j) ≤ a) × (a < mouthBase p (tileOf p i j + 1)) × (a < mouths p)
   pub owner : (i j a t : ℕ) → mouthNumber p i j ≡ Some a → mouthBase p t ≤ a → a < mouthBase p (t + 1) → t ≡ tileOf p i j
   pub reading : (i j k l a b : ℕ) → mouthNumber p i j ≡ Some a → mouthNumber p k l ≡ Some b → tileOf p i j ≡ tileOf p k l → Before i j k l → a < b

@@ -1,7 +1,6 @@
 // Both sides of a sheet and their cuts, which make its tiles.
 ghost use mathlib.Core.Path.{_≡_};
-ghost use mathlib.Core.List.{List, []};
-ghost use Prim.Native.Nat.{ℕ};
+ghost use mathlib.Core.List.{[]};
 ghost use Rattle.std.specs.Results.{Cases};
 ghost use Rattle.marks.specs.Refusals.{told, checked, answered};
 ghost use Rattle.tiles.specs.Rules.{cutChecks};

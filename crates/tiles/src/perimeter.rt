@@ -1,7 +1,7 @@
 // The mouths of a block: its cells on its border, in reading order.
 ghost use mathlib.Core.Path.{_≡_};
 ghost use mathlib.Core.Bool.{cond};
-ghost use Prim.Native.Nat.{ℕ, _+_, _≤_, _<_};
+ghost use Prim.Native.Nat.{_+_, _≤_, _<_};
 ghost use Rattle.std.specs.Options.{Cases as BySome};
 ghost use Rattle.std.specs.declared.option.Option.the-variants.{Some, None};
 ghost use Rattle.tiles.specs.Plans.{areaOf, height, width};
@@ -53,7 +53,7 @@ impl Block {
 }
 
 // How many cells of a rectangle of h rows and w columns lie on its border.
-pub(crate) fn border_cells(h: usize, w: usize) -> usize
+fn border_cells(h: usize, w: usize) -> usize
     requires { ⌜ 1 ≤ h ⌝ ∗ ⌜ 1 ≤ w ⌝ ∗ ⌜ h ≤ 2048 ⌝ ∗ ⌜ w ≤ 2048 ⌝ }
     ensures { λ r. ⌜ r ≡ border h w ⌝ }
 {

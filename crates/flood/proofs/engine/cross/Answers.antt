@@ -1,9 +1,9 @@
 use mathlib.Core.Bool.{true, false}
-use mathlib.Core.Path.{_≡_, refl, sym, ap, _∙_}
-use Prim.Native.Nat.{ℕ, _<_, _≤_, _+_}
+use mathlib.Core.Path.{_≡_, refl, sym, _∙_}
+use Prim.Native.Nat.{_<_}
 use native.Mathlib.Omega.{arith}
 use borrow.Author.Needs.{needs}
-use lib.ListN.{length, getD, drop, set}
+use lib.ListN.{length, getD, set}
 use lib.Seq.{drop-set-lt}
 use Rattle.std.specs.declared.option.Option.the-variants.{Some, None}
 use Rattle.std.specs.shelf.Maps.{nth}
@@ -13,7 +13,7 @@ use Rattle.std.proofs.shelf.Tests.{both-ways}
 use Rattle.marks.specs.Orders.{highest}
 use Rattle.flood.specs.Of.{graph-of}
 use Rattle.flood.specs.Queues.{waiting}
-use Rattle.flood.specs.State.{missing, Waits}
+use Rattle.flood.specs.State.{Waits}
 use Rattle.flood.specs.declared.entry.Entry.{Entry}
 use Rattle.flood.proofs.Counts.{nth-inside, nth-ended}
 use Rattle.flood.proofs.Ends.{missing-fresh, missing-lowered}

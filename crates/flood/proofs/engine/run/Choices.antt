@@ -1,6 +1,6 @@
 use mathlib.Core.Path.{_≡_}
 use Prim.Native.Nat.{_+_}
-use lib.ListN.{length, drop}
+use lib.ListN.{drop}
 use Rattle.flood.specs.Of.{graph-of}
 use Rattle.flood.specs.Queues.{waiting}
 use Rattle.flood.specs.State.{missing, Going, Roomy}

@@ -1,14 +1,12 @@
-use mathlib.Core.Path.{_≡_, refl, sym, ap, subst, _∙_}
-use Prim.Native.Nat.{_<_, _≤_, _+_}
+use mathlib.Core.Path.{_≡_, refl, sym, ap, _∙_}
+use Prim.Native.Nat.{_<_}
 use native.Mathlib.Omega.{arith}
 use lib.ListN.{length, drop, set}
 use lib.Seq.{drop-set-lt}
-use Rattle.std.specs.declared.option.Option.the-variants.{Some, None}
+use Rattle.std.specs.declared.option.Option.the-variants.{None}
 use Rattle.std.proofs.shelf.Elements.{all-weaker}
 use Rattle.std.proofs.shelf.Lists.{length-set}
-use Rattle.flood.specs.Of.{graph-of}
 use Rattle.flood.specs.Queues.{waiting}
-use Rattle.flood.specs.State.{missing, Filling}
 use Rattle.flood.specs.declared.entry.Entry.{Entry}
 use Rattle.flood.proofs.Ends.{lacks, missing-push, fill-none, fill-dry, fill-drain, fill-apart, filled, filling-kept}
 use Rattle.flood.proofs.Laws.{lawful-of}

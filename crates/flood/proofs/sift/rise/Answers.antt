@@ -2,7 +2,7 @@ use mathlib.Core.Path.{_≡_, refl, sym, ap, subst, _∙_}
 use mathlib.Core.Bool.{true}
 use Prim.Native.Nat.{ℕ, _-_, _/_}
 use native.Mathlib.Omega.{arith}
-use lib.ListN.{length, getD, set}
+use lib.ListN.{getD, set}
 use Rattle.std.proofs.shelf.Lists.{getD-read, length-set, set-getD}
 use Rattle.flood.specs.Orders.{Moves, Rises}
 use Rattle.flood.proofs.Sifts.{Risen, Climbed, rise-begins, rise-steps, rise-rests, rise-tops, climb-begins, climb-steps, climb-ends, hole-moves, hole-compares, swap-turned}

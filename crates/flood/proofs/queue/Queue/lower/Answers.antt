@@ -1,6 +1,6 @@
-use mathlib.Core.Bool.{true, false}
-use mathlib.Core.Path.{_≡_, refl, sym, ap, subst, _∙_}
-use Prim.Native.Nat.{ℕ, _<_, _+_}
+use mathlib.Core.Bool.{false}
+use mathlib.Core.Path.{_≡_, sym, subst, _∙_}
+use Prim.Native.Nat.{ℕ, _<_}
 use native.Mathlib.Omega.{arith}
 use borrow.Author.Needs.{needs}
 use lib.ListN.{length, getD, set}
@@ -10,7 +10,7 @@ use Rattle.std.specs.shelf.Maps.{nth}
 use Rattle.marks.specs.declared.refusal.Refusal.{Refusal}
 use Rattle.flood.specs.Heaps.{contents, Lowered, Sound}
 use Rattle.flood.specs.Entries.{before}
-use Rattle.flood.specs.Queues.{Single, times}
+use Rattle.flood.specs.Queues.{times}
 use Rattle.flood.proofs.Accepted.{lower-accepted, before-lower}
 use Rattle.flood.proofs.Counts.{some-same, none-some, all-nth, times-found, times-set, times-shuffled}
 use Rattle.flood.proofs.Places.{half-placed, single-replaced, single-long, kept-both, kept-times, node-low}

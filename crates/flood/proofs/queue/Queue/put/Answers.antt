@@ -1,4 +1,3 @@
-use mathlib.Core.Path.{_∙_}
 use Rattle.flood.specs.Heaps.{contents}
 use Rattle.flood.proofs.Accepted.{put-accepted}
 use Rattle.flood.proofs.Places.{half-placed, single-joined, single-long}

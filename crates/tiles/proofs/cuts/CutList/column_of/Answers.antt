@@ -1,10 +1,7 @@
-use mathlib.Core.Path.{_≡_, refl, sym, ap, _∙_}
-use Prim.Native.Nat.{ℕ, suc, _+_, _-_, _*_, _/_, _%_, _<_, _≤_}
+use mathlib.Core.Path.{_≡_, ap}
+use Prim.Native.Nat.{_+_, _-_, _*_}
 use native.Mathlib.Omega.{arith}
-use native.Mathlib.Numerals.{add-one}
-use lib.ListN.{length}
 use Rattle.tiles.specs.Plans.{planOf, abreast}
-use Rattle.tiles.proofs.Tilings.{lawful-plan}
 use Rattle.tiles.specs.Plans.{height, width}
 use Rattle.tiles.specs.Mouths.{border, mouthBase}
 use Rattle.tiles.proofs.Numberings.{row-start, row-over, base-column, tile-mouths}

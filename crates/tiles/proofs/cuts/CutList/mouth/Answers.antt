@@ -1,4 +1,3 @@
-use mathlib.Core.Path.{_≡_}
 use native.Mathlib.Omega.{arith}
 use Rattle.tiles.specs.Plans.{planOf}
 use Rattle.tiles.proofs.Tilings.{lawful-plan, tile-small}

@@ -1,9 +1,8 @@
-use mathlib.Core.Path.{_≡_, sym, ap, _∙_}
+use mathlib.Core.Path.{sym, ap, _∙_}
 use Prim.Native.Nat.{_+_}
 use native.Mathlib.Omega.{arith}
 use Rattle.std.specs.declared.option.Option.the-variants.{Some, None}
 use Rattle.tiles.specs.Plans.{planOf, tiles}
-use Rattle.tiles.specs.Mouths.{mouthNumber}
 use Rattle.tiles.proofs.Bands.{band-few}
 use Rattle.tiles.proofs.Tilings.{lawful-plan}
 use Rattle.tiles.proofs.Numberings.{base-small}

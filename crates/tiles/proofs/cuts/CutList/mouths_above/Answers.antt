@@ -1,9 +1,7 @@
-use mathlib.Core.Path.{_≡_, refl, sym, ap, _∙_}
-use Prim.Native.Nat.{ℕ, suc, _+_, _-_, _*_, _/_, _%_, _<_, _≤_}
+use mathlib.Core.Path.{_≡_, sym, ap, _∙_}
+use Prim.Native.Nat.{_+_, _-_}
 use native.Mathlib.Omega.{arith}
-use native.Mathlib.Numerals.{add-one}
-use lib.ListN.{length}
-use Rattle.tiles.specs.Plans.{planOf, abreast}
+use Rattle.tiles.specs.Plans.{planOf}
 use Rattle.tiles.proofs.Tilings.{lawful-plan}
 use Rattle.tiles.specs.Bandings.{rowBase}
 use Rattle.tiles.proofs.Numberings.{row-none, row-small}

@@ -1,9 +1,6 @@
-use mathlib.Core.Path.{_≡_, refl, sym, ap, _∙_}
-use Prim.Native.Nat.{ℕ, suc, _+_, _-_, _*_, _/_, _%_, _<_, _≤_}
+use Prim.Native.Nat.{_-_}
 use native.Mathlib.Omega.{arith}
-use native.Mathlib.Numerals.{add-one}
-use lib.ListN.{length}
-use Rattle.tiles.specs.Plans.{planOf, abreast}
+use Rattle.tiles.specs.Plans.{planOf}
 use Rattle.tiles.proofs.Tilings.{lawful-plan}
 use Rattle.tiles.specs.Plans.{tiles}
 use Rattle.tiles.proofs.Numberings.{base-many}

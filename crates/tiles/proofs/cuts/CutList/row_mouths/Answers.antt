@@ -1,15 +1,13 @@
-use mathlib.Core.Path.{_≡_, refl, sym, ap, _∙_}
-use Prim.Native.Nat.{ℕ, suc, _+_, _-_, _*_, _/_, _%_, _<_, _≤_}
+use mathlib.Core.Path.{_≡_, sym, ap, _∙_}
+use Prim.Native.Nat.{ℕ, _+_, _-_, _*_, _≤_}
 use native.Mathlib.Omega.{arith}
-use native.Mathlib.Numerals.{add-one}
-use lib.ListN.{length}
 use Rattle.tiles.specs.Plans.{planOf, abreast}
 use Rattle.tiles.proofs.Tilings.{lawful-plan}
 use Rattle.std.proofs.shelf.Bits.{mul-le}
 use Rattle.tiles.specs.Rules.{bandSize, singles}
 use Rattle.tiles.specs.Bandings.{rowBase}
 use Rattle.tiles.proofs.Tilings.{side-below}
-use Rattle.tiles.proofs.Bands.{Band, band-read, size-read, singles-few, lawful-few}
+use Rattle.tiles.proofs.Bands.{band-read, size-read, singles-few, lawful-few}
 use Rattle.tiles.proofs.Numberings.{line-row, ring-row}
 use Rattle.tiles.proofs.cuts.CutList.row_mouths.Needs as need
 
