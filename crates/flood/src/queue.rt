@@ -63,7 +63,7 @@ fn note_path<M: Mark>(heap: &Heap<Entry<M>>, origins: &mut [Option<usize>])
 
 impl<'a, M: Mark> Queue<'a, M> {
     // An empty queue in the slots.
-    pub fn new(slots: &'a mut [Entry<M>]) -> Queue<'a, M>
+    pub(crate) fn new(slots: &'a mut [Entry<M>]) -> Queue<'a, M>
         ensures ready { λ r. ⌜ ((os : List (Option ℕ)) → Ready (M·Order .leb) os r) ⌝ }
         ensures value { λ r. ⌜ (waiting r ≡ []) × (r .heap .len ≡ 0) × (room (r .heap) ≡ length (now (slots .entry))) ⌝ }
     {
@@ -100,7 +100,7 @@ impl<'a, M: Mark> Queue<'a, M> {
     }
 
     // Lets a node wait that does not.
-    pub fn put(&mut self, origins: &mut [Option<usize>], x: Entry<M>)
+    pub(crate) fn put(&mut self, origins: &mut [Option<usize>], x: Entry<M>)
         requires ready { ⌜ Ready (M·Order .leb) (now origins) (now self) ⌝ }
         requires room { ⌜ now self .heap .len < room (now self .heap) ⌝ }
         requires fresh { ⌜ (times (x .node) (waiting (now self)) ≡ 0) × (x .node < length (now origins)) ⌝ }
@@ -114,7 +114,7 @@ impl<'a, M: Mark> Queue<'a, M> {
     }
 
     // Takes a node that waits at a least level, and writes its origin.
-    pub fn take(&mut self, origins: &mut [Option<usize>]) -> Option<Entry<M>>
+    pub(crate) fn take(&mut self, origins: &mut [Option<usize>]) -> Option<Entry<M>>
         requires ready { ⌜ Ready (M·Order .leb) (now origins) (now self) ⌝ }
         ensures ready { λ _. ⌜ Ready (M·Order .leb) (now (origins .exit)) (now (self .exit)) ⌝ }
         ensures leaves { λ r. ⌜ Left (M·Order .leb) (now (self .entry)) (now (origins .entry)) r (now (self .exit)) (now (origins .exit)) ⌝ }
@@ -128,7 +128,7 @@ impl<'a, M: Mark> Queue<'a, M> {
     }
 
     // Puts an entry in the place of the one that its node has, which is above it.
-    pub fn lower(&mut self, origins: &mut [Option<usize>], x: Entry<M>)
+    pub(crate) fn lower(&mut self, origins: &mut [Option<usize>], x: Entry<M>)
         requires ready { ⌜ Ready (M·Order .leb) (now origins) (now self) ⌝ }
         requires waits { ⌜ times (x .node) (waiting (now self)) ≡ 1 ⌝ }
         requires falls { ⌜ All (λ y. y .node ≡ x .node → M·Order .leb (y .level) (x .level) ≡ false) (waiting (now self)) ⌝ }

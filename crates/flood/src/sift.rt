@@ -7,7 +7,7 @@ ghost use Rattle.flood.specs.Orders.{Rises, Sinks, Best, Moves};
 use marks::Order;
 
 // Moves the element at `at` up, until its parent is at most it, and says where it stands then.
-pub fn rise<E: Order>(slots: &mut [E], mut at: usize) -> usize
+pub(crate) fn rise<E: Order>(slots: &mut [E], mut at: usize) -> usize
     requires { ⌜ at < length (now slots) ⌝ }
     ensures len { λ _. ⌜ length (now (slots .exit)) ≡ length (now (slots .entry)) ⌝ }
     ensures rises { λ _. ⌜ Rises (E·Order .leb) (now (slots .entry)) «at» (now (slots .exit)) ⌝ }
@@ -29,7 +29,7 @@ pub fn rise<E: Order>(slots: &mut [E], mut at: usize) -> usize
 }
 
 // Moves the first element down among the first `len`, until it is at most its children, and says where it stands then.
-pub fn sink<E: Order>(slots: &mut [E], len: usize) -> usize
+pub(crate) fn sink<E: Order>(slots: &mut [E], len: usize) -> usize
     requires { ⌜ (0 < length (now slots)) × (len ≤ length (now slots)) ⌝ }
     ensures len { λ _. ⌜ length (now (slots .exit)) ≡ length (now (slots .entry)) ⌝ }
     ensures sinks { λ _. ⌜ Sinks (E·Order .leb) (now (slots .entry)) len (now (slots .exit)) ⌝ }
