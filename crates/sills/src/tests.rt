@@ -13,7 +13,12 @@ fn printed(heap: Global, input: &str, output: &str) -> Result<(), Fail> {
 
 // The number and the place of a refusal.
 fn refused(heap: Global, input: &str, number: u8, place: usize) -> Result<(), Fail> {
-    match answer(heap, input.as_bytes()) {
+    refused_bytes(heap, input.as_bytes(), number, place)
+}
+
+// The same of bytes.
+fn refused_bytes(heap: Global, input: &[u8], number: u8, place: usize) -> Result<(), Fail> {
+    match answer(heap, input) {
         Ok(_) => Err(Fail::new("accepted")),
         Err(refusal) => {
             check_eq(refusal.number(), number)?;
@@ -107,4 +112,40 @@ fn small_sheets(rt: LibcRuntime) -> Result<(), Fail> {
         "(sheet height 3 3\n(row 2 5 5)\n(row 5 1 5)\n(row 5 5 5)\n)\n(cuts (down) (across))\n",
         "(sheet height 3 3\n(row 2 5 5)\n(row 5 2 5)\n(row 5 5 5)\n)\n(raised 1)\n",
     )
+}
+
+// As many blanks.
+fn blanks(heap: Global, n: usize) -> Result<Vec<u8>, Fail> {
+    let mut all = Vec::new(heap);
+    for _ in 0..n {
+        all.push(b' ')?;
+    }
+    Ok(all)
+}
+
+// An uncut sheet of open ground: its heading, and so many rows and columns.
+fn open_ground(heap: Global, heading: &str, rows: usize, cols: usize) -> Result<Vec<u8>, Fail> {
+    let mut text = Vec::new(heap);
+    text.extend_from_slice(heading.as_bytes())?;
+    for _ in 0..rows {
+        text.extend_from_slice(b"(row")?;
+        for _ in 0..cols {
+            text.extend_from_slice(b" o")?;
+        }
+        text.extend_from_slice(b")\n")?;
+    }
+    text.extend_from_slice(b")\n(cuts (down) (across))\n")?;
+    Ok(text)
+}
+
+// 60,000 bytes are read, and one more is too many; 4,096 cells may be, and so only their one band is refused, but more are too many.
+#[test]
+fn refuses_size(rt: LibcRuntime) -> Result<(), Fail> {
+    let heap = rt.alloc();
+    refused_bytes(heap, blanks(heap, 60_000)?.as_slice(), 8, 0)?;
+    refused_bytes(heap, blanks(heap, 60_001)?.as_slice(), 1, 0)?;
+    let most = open_ground(heap, "(sheet class 2 2048\n", 2, 2048)?;
+    refused_bytes(heap, most.as_slice(), 2, 0)?;
+    let more = open_ground(heap, "(sheet class 3 1366\n", 3, 1366)?;
+    refused_bytes(heap, more.as_slice(), 1, 0)
 }
