@@ -1,4 +1,6 @@
 // The program's answer: what it prints for its input.
+#![tactic(auto)]
+
 mod answering;
 mod filling;
 mod printing;

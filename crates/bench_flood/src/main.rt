@@ -5,6 +5,8 @@
 //
 // With three numbers it floods a sheet, with five a ring (ring.rt) whose near levels come first. Heights and levels are
 // 16-bit numbers of decimetres, the lower byte first. With other arguments it does nothing.
+#![tactic(auto)]
+
 mod memory;
 mod ring;
 mod subject;

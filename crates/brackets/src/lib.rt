@@ -1,4 +1,6 @@
 // The text of a sheet as a sheet, and writing it.
+#![tactic(auto)]
+
 mod cells;
 mod making;
 mod measuring;

@@ -1,4 +1,6 @@
 // Small cases that a planner would check by hand, as one theorem on the definitions that the contracts cite.
+#![tactic(auto)]
+
 ghost use Rattle.std.specs.Prelude.{◌≡◌};
 ghost use Rattle.cases.specs.Sheets.{heights, classes};
 ghost use Rattle.cases.specs.Worked.{CasesHold};

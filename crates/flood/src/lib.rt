@@ -1,4 +1,6 @@
 // The heap over a lent slice, grounds, and the flood that gives each node of a ground the level at which it drains.
+#![tactic(auto)]
+
 mod engine;
 mod entry;
 mod ground;

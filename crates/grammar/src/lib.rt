@@ -1,4 +1,6 @@
 // Texts by the grammar that they are written in, and reading by one.
+#![tactic(auto)]
+
 ghost use Rattle.std.specs.Prelude.{◌≡◌, ℕ, ◌^◌, ◌<◌, ◌≤◌, length, drop};
 ghost use Rattle.grammar.specs.Grammars.{Reads, lit};
 ghost use Rattle.grammar.specs.Decimals.{Natural};

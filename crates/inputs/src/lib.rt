@@ -1,4 +1,6 @@
 // The program's input: the text of a sheet and a line of cuts.
+#![tactic(auto)]
+
 mod cuts;
 mod input;
 mod line;

@@ -1,4 +1,6 @@
 // Kinds of mark: their order, their codes and spellings. And the refusals of every layer above.
+#![tactic(auto)]
+
 mod class;
 mod height;
 mod kind;

@@ -1,4 +1,6 @@
 // A sample ground of five nodes, and the tests of the heap and of the flood.
+#![tactic(auto)]
+
 ghost use Rattle.ponds.specs.Laws.{pond_laws};
 ghost use Rattle.ponds.specs.Ponds.{joined, outlet};
 

@@ -1,4 +1,6 @@
 // A round: one tiled run over a cut sheet, by surveys of its tiles and one settling.
+#![tactic(auto)]
+
 mod calls;
 mod rounds;
 mod settle;

@@ -1,5 +1,7 @@
 // What the tiled way of filling a sheet rests on, with no program in it: each function here states one theorem, of every
 // kind of mark.
+#![tactic(auto)]
+
 ghost use Rattle.seams.specs.Theorems.{SurveysEnd, MouthsSettle, LevelsFinish, TilesFill};
 ghost use Rattle.terrain.specs.Terrains.{kind_of};
 

@@ -1,4 +1,6 @@
 // The ground of mouths, and its flood, which settles a round.
+#![tactic(auto)]
+
 mod ground;
 mod sills;
 

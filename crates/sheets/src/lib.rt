@@ -1,4 +1,6 @@
 // Sheets of marks: what can be read and written, run by run, whatever it is made of.
+#![tactic(auto)]
+
 mod copies;
 mod layout;
 mod packed;

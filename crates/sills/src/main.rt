@@ -1,4 +1,6 @@
 // Fills the hollows of a sheet: reads it as text from standard input, and prints the filled sheet.
+#![tactic(auto)]
+
 use anyhow::anyhow;
 use marks::Refusal;
 use std::io;

@@ -1,4 +1,6 @@
 // The survey of a tile: its mouths' marks, and a tree of passes over its mouths.
+#![tactic(auto)]
+
 mod around;
 mod blocks;
 mod labels;

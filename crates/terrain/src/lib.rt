@@ -1,4 +1,6 @@
 // Ways, sills, and a whole sheet filled at once.
+#![tactic(auto)]
+
 mod blocks;
 mod fill;
 mod ground;

@@ -1,4 +1,6 @@
 // The bracket text of a sheet, and reading it.
+#![tactic(auto)]
+
 mod checking;
 mod heading;
 mod reading;

@@ -1,4 +1,6 @@
 // How a sheet is cut into tiles, and the numbers of the tiles and of their mouths.
+#![tactic(auto)]
+
 mod block;
 mod cuts;
 mod dividing;
