@@ -2,7 +2,7 @@
 use Rattle.std.proofs.Common.{◌≡◌, ℕ, ◌-◌, ◌*◌, ◌<◌, ◌≤◌, max, Bool, true, false, cond, ltb, ◌⊎◌, List, [], ◌∷◌, ◌++◌, length, take, Ok, Err, vec_items, Result, Vec, sym, refl, ap, ◌∙◌, subst, inl, inr, ⊎_elim, arith, length-append, MatchResult}
 use Rattle.std.specs.declared.alloc.Global.{Global}
 use Rattle.std.proofs.lemmas.List.{take_at}
-use Rattle.std.proofs.str.Laws.{order}
+use Rattle.std.proofs.lemmas.Bool.{cases_lt}
 use Rattle.std.proofs.lemmas.Bool.{le-ltb}
 use Rattle.marks.specs.Refusals.{accepted, refused, checked, told, answered, number, placed}
 use Rattle.marks.specs.declared.refusal.Refusal.{Refusal}
@@ -68,7 +68,7 @@ either_longest {A = A} {B = B} K L bs p q h k =
     ⊎_elim
     (λ less. record { one = (inr k.one.0, k.one.1, subst (Shared bs (L.text k.one.0)) (sym (right less)) k.one.2); most = most })
     (λ ge. record { one = (inl h.one.0, h.one.1, subst (Shared bs (K.text h.one.0)) (sym (left ge)) h.one.2); most = most })
-    (order p q)
+    (cases_lt p q)
   where
     right : p < q → max p q ≡ q
     right less = omega arith

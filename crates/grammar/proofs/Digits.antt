@@ -1,6 +1,6 @@
 -- Beginnings of decimal numbers. Assumes nothing.
 use Rattle.std.proofs.Common.{◌≡◌, ℕ, zero, suc, ◌+◌, ◌*◌, ◌/◌, ◌%◌, ◌^◌, ◌<◌, ◌≤◌, ◌⊎◌, List, [], ◌∷◌, ◌++◌, length, get_or, take, drop, decimal, sym, refl, ap, ◌∙◌, subst, inl, inr, ⊎_elim, append_assoc, append-nil, arith, length-append, length-drop}
-use Rattle.std.proofs.str.Laws.{order}
+use Rattle.std.proofs.lemmas.Bool.{cases_lt}
 use Rattle.std.proofs.lemmas.List.{drop_more, same_from_push}
 use Rattle.std.proofs.lemmas.Fmt.{decimal_digit, decimal_step, decimal_by_steps, decimal_nonempty, decimal_injective}
 use Rattle.grammar.specs.Grammars.{Edge, Front}
@@ -64,7 +64,7 @@ last_digit max n k b u small h e pos le =
     (λ ge.
     let m = same_from_push u (decimal (k / 10)) b (48 + k % 10) (e ∙ decimal_step k ge (omega arith)) in
     ⊎_elim (λ z. absurd (omega (arith, decimal_nonempty (k / 10) (omega arith), ap length (sym z.0 ∙ m.0)))) (λ z. let is : n ≡ k / 10 = decimal_injective n (k / 10) (omega (arith, z.2)) (omega arith) (sym z.0 ∙ m.0) in (k % 10, omega arith, m.1, omega arith)) h)
-    (order k 10)
+    (cases_lt k 10)
   where
     single : k < 10 → u ≡ [] → n ≡ 0 → (d : ℕ) × (d < 10) × (b ≡ 48 + d) × (k ≡ n * 10 + d)
     single lt none is = (k, lt, heads (ap (λ w. w ++ (b ∷ [])) (sym none) ∙ e ∙ decimal_digit k lt), omega arith)

@@ -1,7 +1,7 @@
 -- Reading by parts. Assumes nothing.
 use Rattle.std.proofs.Common.{◌≡◌, ℕ, zero, suc, ◌+◌, ◌-◌, ◌<◌, ◌≤◌, ◌⊎◌, List, [], ◌∷◌, ◌++◌, length, take, drop, sym, refl, ap, ◌∙◌, subst, inl, inr, ⊎_elim, append_assoc, append-nil, add_assoc, suc-add, zero-add, arith, length-append, length-drop, take-append-drop}
 use mathlib.Core.List.{append_cancel_left}
-use Rattle.std.proofs.str.Laws.{order}
+use Rattle.std.proofs.lemmas.Bool.{cases_lt}
 use Rattle.std.proofs.lemmas.List.{take_at, drop_at, length-take-le, drop-drop}
 use Rattle.grammar.specs.Grammars.{Grammar, Shared, LongestShared, Front, Edge, Stuck, Found, Lost, Reads, Code, Injective, Without, all_by, lit, ended, seq, rep, rep_valid, rep_text, After, Sofar}
 
@@ -52,7 +52,7 @@ module _ {A : Type 0} {K : Grammar A} where
         same = take_front u v ∙ sym (ap (take (length u)) h.front.text ∙ take_front u h.front.rest);
       },
     );
-    most = λ a va n sh. ⊎_elim (λ more. absurd (past a va n sh v refl more)) (λ le. le) (order (length u) n);
+    most = λ a va n sh. ⊎_elim (λ more. absurd (past a va n sh v refl more)) (λ le. le) (cases_lt (length u) n);
   }
     where
       take_front : (xs ys : List ℕ) → take (length xs) (xs ++ ys) ≡ xs

@@ -4,7 +4,7 @@ use Rattle.std.proofs.Common.{sym, ap, subst, ◌∙◌, inl, inr, ⊎_elim, app
 use Rattle.std.specs.Int.{w16}
 use Rattle.std.proofs.lemmas.Int.{ints}
 use Rattle.std.specs.Int.Signed.{mag}
-use Rattle.std.proofs.str.Laws.{order}
+use Rattle.std.proofs.lemmas.Bool.{cases_lt}
 use Rattle.std.proofs.lemmas.List.{drop_more, take_at, drop_at, take_all, length-take-le, nil_from_length}
 use Rattle.std.proofs.lemmas.Fmt.{decimal_digit, decimal_step, decimal_by_steps, decimal_nonempty, decimal_injective, first_decimal, length-decimal-le}
 use Rattle.grammar.specs.Grammars.{Grammar, Edge, Front, After, Scanned, LongestShared, all_by}
@@ -59,7 +59,7 @@ minus_is k h = ap (λ b. cond b (46 ∷ []) (45 ∷ decimal (suc k))) (apart (k 
 pub view : (z : ℤ) → mag z < 2 ^ 15 → View (spelled_z z)
 view (pos zero) h = nought (decimal_digit 0 (omega arith))
 view (pos (suc n)) h = plain (suc n) (omega arith) (omega arith) refl
-view (negsuc n) h = ⊎_elim (λ lt. minus (suc n) (omega arith) (omega arith) (minus_is n lt)) (λ ge. let is : n ≡ 32767 = omega arith in dot (ap (λ k. spelled_z (negsuc k)) is)) (order n 32767)
+view (negsuc n) h = ⊎_elim (λ lt. minus (suc n) (omega arith) (omega arith) (minus_is n lt)) (λ ge. let is : n ≡ 32767 = omega arith in dot (ap (λ k. spelled_z (negsuc k)) is)) (cases_lt n 32767)
 
 -- what the first byte tells
 first_plain : (n : ℕ) → 1 ≤ n → n ≤ 32767 → (b : ℕ) (x : List ℕ) → decimal n ≡ b ∷ x → 48 < b
@@ -110,16 +110,16 @@ spelled_apart (pos m) (pos n) h k e = ap pos (decimal_injective m n (omega arith
 spelled_apart (pos m) (negsuc n) h k e = absurd (mixed m n h k e)
   where
     mixed : (m n : ℕ) → m < 2 ^ 15 → n < 2 ^ 15 → decimal m ≢ spelled_z (negsuc n)
-    mixed m n h k e = ⊎_elim (λ lt. omega (arith, decimal_high m (omega arith) [] (decimal (suc n)) 45 (e ∙ minus_is n lt))) (λ ge. let is : n ≡ 32767 = omega arith in omega (arith, decimal_high m (omega arith) [] [] 46 (e ∙ ap (λ k. spelled_z (negsuc k)) is))) (order n 32767)
+    mixed m n h k e = ⊎_elim (λ lt. omega (arith, decimal_high m (omega arith) [] (decimal (suc n)) 45 (e ∙ minus_is n lt))) (λ ge. let is : n ≡ 32767 = omega arith in omega (arith, decimal_high m (omega arith) [] [] 46 (e ∙ ap (λ k. spelled_z (negsuc k)) is))) (cases_lt n 32767)
 spelled_apart (negsuc m) (pos n) h k e = absurd (mixed n m k h (sym e))
   where
     mixed : (m n : ℕ) → m < 2 ^ 15 → n < 2 ^ 15 → decimal m ≢ spelled_z (negsuc n)
-    mixed m n h k e = ⊎_elim (λ lt. omega (arith, decimal_high m (omega arith) [] (decimal (suc n)) 45 (e ∙ minus_is n lt))) (λ ge. let is : n ≡ 32767 = omega arith in omega (arith, decimal_high m (omega arith) [] [] 46 (e ∙ ap (λ k. spelled_z (negsuc k)) is))) (order n 32767)
+    mixed m n h k e = ⊎_elim (λ lt. omega (arith, decimal_high m (omega arith) [] (decimal (suc n)) 45 (e ∙ minus_is n lt))) (λ ge. let is : n ≡ 32767 = omega arith in omega (arith, decimal_high m (omega arith) [] [] 46 (e ∙ ap (λ k. spelled_z (negsuc k)) is))) (cases_lt n 32767)
 spelled_apart (negsuc m) (negsuc n) h k e =
     ⊎_elim
-    (λ lm. ⊎_elim (λ ln. ap negsuc (both lm ln)) (λ gn. absurd (heads m lm n (omega arith) e)) (order n 32767))
-    (λ gm. ⊎_elim (λ ln. absurd (heads n ln m (omega arith) (sym e))) (λ gn. ap negsuc (omega arith)) (order n 32767))
-    (order m 32767)
+    (λ lm. ⊎_elim (λ ln. ap negsuc (both lm ln)) (λ gn. absurd (heads m lm n (omega arith) e)) (cases_lt n 32767))
+    (λ gm. ⊎_elim (λ ln. absurd (heads n ln m (omega arith) (sym e))) (λ gn. ap negsuc (omega arith)) (cases_lt n 32767))
+    (cases_lt m 32767)
   where
     both : m < 32767 → n < 32767 → m ≡ n
     both lm ln =

@@ -1,7 +1,7 @@
 -- The text of a sheet is the text of its parts. Assumes nothing.
 use Rattle.std.proofs.Common.{◌≡◌, ℕ, zero, suc, ◌-◌, ◌<◌, ◌≤◌, List, [], ◌∷◌, ◌++◌, map, length, get_or, codes, decimal, sym, refl, ap, ◌∙◌, subst, ⊎_elim, append_assoc, arith}
 use Rattle.std.specs.List.{range_with_len}
-use Rattle.std.proofs.str.Laws.{order}
+use Rattle.std.proofs.lemmas.Bool.{cases_lt}
 use Rattle.std.proofs.lemmas.List.{length-map, length_push}
 use Rattle.std.proofs.lemmas.List.FromFn.{fill_by_all, length-map-range_with_len, get_or-map-range_with_len}
 use Rattle.grammar.specs.Grammars.{Grammar, Code, After, all_by, ended, rep_valid, rep_text}
@@ -141,7 +141,7 @@ module _ {M : Type 0} (cells : ℕ → Cell M) where
             ⊎_elim
             (λ less. at_left rec.0 (last.0 ∷ []) j (let e = rec.1 in omega arith) ∙ rec.2 j less)
             (λ ge. let is : j ≡ n = omega arith in at_last rec.0 last.0 j (is ∙ sym rec.1) ∙ sym last.1 ∙ ap cells (sym is))
-            (order j n),
+            (cases_lt j n),
       )
 
 module _ {M : Type 0} (f : M → List ℕ) (c : ℕ) (pos : 1 ≤ c) where
@@ -155,7 +155,7 @@ module _ {M : Type 0} (f : M → List ℕ) (c : ℕ) (pos : 1 ≤ c) where
             ⊎_elim
             (λ less. at_left most.0 (last.0 ∷ []) j (let e = most.1 in omega arith) ∙ most.2 j less)
             (λ ge. let is : j ≡ c - 1 = omega arith in at_last most.0 last.0 j (is ∙ sym most.1) ∙ sym last.1 ∙ ap cells (sym is))
-            (order j (c - 1)),
+            (cases_lt j (c - 1)),
       )
 
   rows_to : (cells : ℕ → ℕ → Cell M) (n : ℕ) → ((i : ℕ) → i < n → There (cells i) c) → (zs : List (RowOf M)) × rep_valid (row f c) n zs × ((i j : ℕ) → i < n → j < c → cell_in zs i j ≡ cells i j)
@@ -170,7 +170,7 @@ module _ {M : Type 0} (f : M → List ℕ) (c : ℕ) (pos : 1 ≤ c) where
             ⊎_elim
             (λ less. cell_left rec.0 (last.0 ∷ []) i j (omega arith) ∙ rec.2 i j less lj)
             (λ ge. let is : i ≡ n = omega arith in cell_last rec.0 last.0 i j (is ∙ sym long) ∙ last.2 j lj ∙ ap (λ k. cells k j) (sym is))
-            (order i n),
+            (cases_lt i n),
       )
 
   rows_there : (n : ℕ) (zs : List (RowOf M)) → rep_valid (row f c) n zs → (i j : ℕ) → i < n → j < c → (m : M) × (cell_in zs i j ≡ mark m)

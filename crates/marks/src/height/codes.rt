@@ -3,7 +3,7 @@ ghost use Rattle.std.specs.Prelude.{◌≡◌, ℕ, ◌^◌, ◌<◌, ◌≤◌,
 ghost use Rattle.grammar.specs.Grammars.{Scanned, all_by};
 ghost use Rattle.marks.specs.Heights.{bits16, height_of};
 ghost use Rattle.marks.specs.Spellings.{spelled_z, spelt};
-ghost use Rattle.marks.specs.HeightsLemmas.{same_height, bits_apart, height_decodes};
+ghost use Rattle.marks.specs.HeightsLemmas.{same_height, bits_apart, bits_small, height_encodes, height_decodes};
 ghost use Rattle.marks.specs.Spells.{spelled_apart, spelled_some, spelled_clear, word_clear};
 ghost use Rattle.std.proofs.Common.{rules, arith};
 
@@ -42,7 +42,11 @@ impl CodedMark for Height {
 
     ghost decoded = { height_of };
 
+    ghost narrow = { λ x. bits_small x.dm x.fits };
+
     ghost apart = { λ x y e. same_height x y (bits_apart _ _ x.fits y.fits e) };
+
+    ghost encodes = { λ x. height_encodes x (bits_small x.dm x.fits) };
 
     ghost decodes = { λ c x e. height_decodes c x e };
 

@@ -5,19 +5,19 @@ use Rattle.answers.specs.Answers.{heights, classes, no_memory, no_input, of_heig
 use Rattle.answers.proofs.OfKind.{either_longest}
 use Rattle.answers.proofs.answering.answer.Goals as goal
 
-pub returns-in-Err-read-input : goal.returns-in-Err-read-input
-returns-in-Err-read-input c =
+pub returns-in-Err-read_input : goal.returns-in-Err-read_input
+returns-in-Err-read_input c =
     let h = c.in-Err.ensures in
-    let k = c.in-Err-read-input.ensures in
+    let k = c.in-Err-read_input.ensures in
     let bs = c.args.bytes.now in
     let H = inputs heights.word heights.spelled in
     let K = inputs classes.word classes.spelled in
     no_input (omega arith) h.0 k.0 c.max.result
-    (subst (LongestShared (either H K) bs) (sym c.max.ensures) (either_longest H K bs c.in-Err.first c.in-Err-read-input.second h.1 k.1))
+    (subst (LongestShared (either H K) bs) (sym c.max.ensures) (either_longest H K bs c.in-Err.first c.in-Err-read_input.second h.1 k.1))
     refl
 
 pub returns-in-Ok : goal.returns-in-Ok
-returns-in-Ok c = ⊎_elim (λ e. no_memory e) (λ a. of_heights (omega arith) a) c.answer-input.ensures
+returns-in-Ok c = ⊎_elim (λ e. no_memory e) (λ a. of_heights (omega arith) a) c.answer_input.ensures
 
-pub returns-in-Ok-read-input : goal.returns-in-Ok-read-input
-returns-in-Ok-read-input c = ⊎_elim (λ e. no_memory e) (λ a. of_classes (omega arith) a) c.answer-input-in-Ok-read-input.ensures
+pub returns-in-Ok-read_input : goal.returns-in-Ok-read_input
+returns-in-Ok-read_input c = ⊎_elim (λ e. no_memory e) (λ a. of_classes (omega arith) a) c.answer_input-in-Ok-read_input.ensures

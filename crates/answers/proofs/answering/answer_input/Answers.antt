@@ -14,24 +14,24 @@ use Rattle.answers.proofs.answering.answer_input.Goals as goal
 laws : (g : given.Over) → Spelling g.M.Spelled.spelled
 laws g = let m = g.met.M.CodedMark in record { one = g.M.Mark.lowest; distinct = m.distinct; clear = m.clear }
 
-pub slice-bounds-new-end : goal.slice-bounds-new-end
-slice-bounds-new-end g c =
+pub slice_bounds-new-end : goal.slice_bounds-new-end
+slice_bounds-new-end g c =
     let h = end_within g.M.Spelled.named g.M.Spelled.spelled c.args.bytes.now c.requires.0 _ _ c.requires.1 c.args.input.end c.requires.4 in
     search rules
 
-pub returns-in-err-source : goal.returns-in-err-source
-returns-in-err-source g c =
-    let p = err_from_is_err_and c.from-residual-in-err-source.result c.from-residual-in-err-source.ensures.1 in
+pub returns-in_err-source : goal.returns-in_err-source
+returns-in_err-source g c =
+    let p = err_from_is_err_and c.from-residual-in_err-source.result c.from-residual-in_err-source.ensures.1 in
     rw (p.1, p.2)
     (⊎_elim
     (λ k. inl (λ i. refused (k.0 i) (k.1 i)))
     (λ k. absurd (k.1 (c.requires.0, is_text g.M.Spelled.named g.M.Spelled.spelled c.args.bytes.now c.requires.0 _ _ c.requires.1 c.args.input.end c.requires.4)))
-    c.in-err-source.ensures)
+    c.in_err-source.ensures)
 
-pub print-sheet-requires : goal.print-sheet-requires
-print-sheet-requires g c =
-    let s = c.in-ok-source.source in
-    readable_live (in_text g.M.CodedMark.decoded g.M.Spelled.spelled s.rows s.cols s.bytes.now) c.in-ok-source.ensures.readable
+pub print_sheet-requires : goal.print_sheet-requires
+print_sheet-requires g c =
+    let s = c.in_ok-source.source in
+    readable_live (in_text g.M.CodedMark.decoded g.M.Spelled.spelled s.rows s.cols s.bytes.now) c.in_ok-source.ensures.readable
 
 pub returns : goal.returns
 returns g c =
@@ -39,13 +39,13 @@ returns g c =
     let f = g.M.Spelled.spelled in
     let i = c.args.input in
     let bs = c.args.bytes.now in
-    let s = c.in-ok-source.source in
+    let s = c.in_ok-source.source in
     let h = in_text g.M.CodedMark.decoded f s.rows s.cols s.bytes.now in
     let down = cuts_of i.down in
     let across = cuts_of i.across in
-    let t = c.in-ok-source.ensures in
+    let t = c.in_ok-source.ensures in
     let same = one_sheet word f (laws g) c.requires.0 h (take (i.end - 0) bs) (is_text word f bs c.requires.0 down across c.requires.1 i.end c.requires.4) t in
     printed_answer (coded_of g.M.Order g.M.Mark g.M.Spelled) bs h down across
     (read_again word f bs c.requires.0 down across c.requires.1 i.end c.requires.4 h t)
-    (all_passed c.requires.0 h i.rows i.cols down across same c.requires.2 c.requires.3 c.if-input-gt-MOST-CELLS.false c.in-ok-check-cuts.ensures)
-    c.print-sheet.result c.print-sheet.ensures
+    (all_passed c.requires.0 h i.rows i.cols down across same c.requires.2 c.requires.3 c.if-input-gt-MOST_CELLS.false c.in_ok-check_cuts.ensures)
+    c.print_sheet.result c.print_sheet.ensures

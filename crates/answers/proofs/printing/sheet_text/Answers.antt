@@ -5,18 +5,18 @@ use Rattle.answers.proofs.Whole.{length_answers, writing_answers, filled_by}
 use Rattle.answers.proofs.printing.sheet_text.Given as given
 use Rattle.answers.proofs.printing.sheet_text.Goals as goal
 
-pub returns-in-err-len : goal.returns-in-err-len
-returns-in-err-len g c = absurd (length_answers g.M.Spelled.named g.M.Spelled.spelled (g.S.Sheet.meaning c.args.sheet.now) (length c.args.row.now) c.requires.row c.requires.live _ _ c.in-err-len.ensures.told)
+pub returns-in_err-len : goal.returns-in_err-len
+returns-in_err-len g c = absurd (length_answers g.M.Spelled.named g.M.Spelled.spelled (g.S.Sheet.meaning c.args.sheet.now) (length c.args.row.now) c.requires.row c.requires.live _ _ c.in_err-len.ensures.told)
 
-pub returns-in-err-write-text : goal.returns-in-err-write-text
-returns-in-err-write-text g c =
+pub returns-in_err-write_text : goal.returns-in_err-write_text
+returns-in_err-write_text g c =
     let m = g.S.Sheet.meaning c.args.sheet.now in
-    let t = measured g.M.Spelled.named g.M.Spelled.spelled m (length c.args.row.now) c.in-ok-len.len c.in-ok-len.ensures.told in
-    let room : length (text_of g.M.Spelled.named g.M.Spelled.spelled m) ≤ length c.as-mut-slice.result.now = omega (arith, t.is, c.as-mut-slice.ensures.len, c.in-ok-text.ensures) in
-    absurd (writing_answers g.M.Spelled.named g.M.Spelled.spelled m (length c.text-length.new.scratch) (omega (arith, c.text-length.auto.scratch, c.requires.row)) c.requires.live (length c.as-mut-slice.result.now) _ _ room c.in-err-write-text.ensures.told)
+    let t = measured g.M.Spelled.named g.M.Spelled.spelled m (length c.args.row.now) c.in_ok-len.len c.in_ok-len.ensures.told in
+    let room : length (text_of g.M.Spelled.named g.M.Spelled.spelled m) ≤ length c.as_mut_slice.result.now = omega (arith, t.is, c.as_mut_slice.ensures.len, c.in_ok-text.ensures) in
+    absurd (writing_answers g.M.Spelled.named g.M.Spelled.spelled m (length c.text_length.new.scratch) (omega (arith, c.text_length.auto.scratch, c.requires.row)) c.requires.live (length c.as_mut_slice.result.now) _ _ room c.in_err-write_text.ensures.told)
 
 pub returns : goal.returns
 returns g c =
     let m = g.S.Sheet.meaning c.args.sheet.now in
-    let t = measured g.M.Spelled.named g.M.Spelled.spelled m (length c.args.row.now) c.in-ok-len.len c.in-ok-len.ensures.told in
-    filled_by (text_of g.M.Spelled.named g.M.Spelled.spelled m) c.as-mut-slice.result.now c.write-text.new.out c.in-ok-text.text.len _ c.in-ok-write-text.ensures.leaves c.as-mut-slice.ensures.len (c.in-ok-text.ensures ∙ t.is)
+    let t = measured g.M.Spelled.named g.M.Spelled.spelled m (length c.args.row.now) c.in_ok-len.len c.in_ok-len.ensures.told in
+    filled_by (text_of g.M.Spelled.named g.M.Spelled.spelled m) c.as_mut_slice.result.now c.write_text.new.out c.in_ok-text.text.len _ c.in_ok-write_text.ensures.leaves c.as_mut_slice.ensures.len (c.in_ok-text.ensures ∙ t.is)

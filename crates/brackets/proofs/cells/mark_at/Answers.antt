@@ -8,4 +8,4 @@ laws : (g : given.Over) → Coding g.M.CodedMark.coded g.M.CodedMark.decoded g.M
 laws g = let m = g.met.M.CodedMark in record { narrow = m.narrow; encodes = m.encodes; distinct = m.distinct }
 
 pub returns : goal.returns
-returns g c = mark_is _ _ _ (laws g) c.written.result.now c.from-spelling.result c.from-spelling.ensures ∙ ap (mark_of g.M.CodedMark.decoded g.M.Spelled.spelled) c.written.ensures
+returns g c = mark_is _ _ _ (laws g) c.written.result.now c.from_spelling.result c.from_spelling.ensures ∙ ap (mark_of g.M.CodedMark.decoded g.M.Spelled.spelled) c.written.ensures

@@ -10,10 +10,10 @@ pub loop-k-preserved : goal.loop-k-preserved
 loop-k-preserved c =
     let bs = c.args.bytes.now in
     let v = c.loop-k.invariant in
-    let line = c.next-line-at.ensures.value ∙ ap past_line v.1 in (
-      c.next-line-at.ensures.within,
+    let line = c.next_line-at.ensures.value ∙ ap past_line v.1 in (
+      c.next_line-at.ensures.within,
       line ∙ sym (ap (λ k. lines_on k bs) (add-one c.loop-k.k)),
-      c.in-ok-push.ensures.items ∙ starts_more c.loop-k.k c.next-line-at.result bs (vec_items c.loop-k.starts) v.2 c.next-line-at.ensures.within line,
+      c.in_ok-push.ensures.items ∙ starts_more c.loop-k.k c.next_line-at.result bs (vec_items c.loop-k.starts) v.2 c.next_line-at.ensures.within line,
     )
 
 pub returns : goal.returns

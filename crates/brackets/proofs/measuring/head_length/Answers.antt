@@ -2,11 +2,11 @@ use Rattle.std.proofs.Common.{length, ap, ◌∙◌, arith, rules}
 use Rattle.brackets.proofs.Puts.{head_long, side_long}
 use Rattle.brackets.proofs.measuring.head_length.Goals as goal
 
-pub overflow-add-result-3 : goal.overflow-add-result-3
-overflow-add-result-3 g c =
+pub overflow_add-result-3 : goal.overflow_add-result-3
+overflow_add-result-3 g c =
     let w = ap length c.name.ensures in
-    let r = ap length (c.as-bytes.ensures ∙ c.digits.ensures) in
-    let k = ap length (c.as-bytes-2.ensures ∙ c.digits-2.ensures) in
+    let r = ap length (c.as_bytes.ensures ∙ c.digits.ensures) in
+    let k = ap length (c.as_bytes-2.ensures ∙ c.digits-2.ensures) in
     let brief = g.met.M.CodedMark.brief.1 in
     let a = side_long c.args.rows c.requires.rows in
     let b = side_long c.args.cols c.requires.cols in
@@ -15,8 +15,8 @@ overflow-add-result-3 g c =
 pub returns : goal.returns
 returns g c =
     let w = ap length c.name.ensures in
-    let r = ap length (c.as-bytes.ensures ∙ c.digits.ensures) in
-    let k = ap length (c.as-bytes-2.ensures ∙ c.digits-2.ensures) in
+    let r = ap length (c.as_bytes.ensures ∙ c.digits.ensures) in
+    let k = ap length (c.as_bytes-2.ensures ∙ c.digits-2.ensures) in
     let brief = g.met.M.CodedMark.brief.1 in
     let a = side_long c.args.rows c.requires.rows in
     let b = side_long c.args.cols c.requires.cols in

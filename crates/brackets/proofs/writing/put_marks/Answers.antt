@@ -16,11 +16,11 @@ pub put-at-requires-in-loop-mark : goal.put-at-requires-in-loop-mark
 put-at-requires-in-loop-mark g c =
     let s = c.loop-mark.invariant in
     let p = c.put-at.ensures in
-    let w = ap length (c.as-bytes.ensures ∙ c.spelling.ensures) in
+    let w = ap length (c.as_bytes.ensures ∙ c.spelling.ensures) in
     omega (arith, s.place, p.place, put_long _ _ _ _ _ s, put_long _ _ _ _ _ p, blanked_room g.M.Spelled.spelled c.args.marks.now c.loop-mark.mark-index c.mark-item.result c.loop-mark-test.true c.mark-item.is)
 
 pub loop-mark-preserved : goal.loop-mark-preserved
-loop-mark-preserved g c = mark_put g.M.Spelled.spelled c.args.marks.now c.loop-mark.mark-index c.mark-item.result c.loop-mark-test.true c.mark-item.is _ _ _ _ _ _ _ _ c.loop-mark.invariant c.put-at.ensures _ (c.as-bytes.ensures ∙ c.spelling.ensures) c.put-at-in-loop-mark.ensures
+loop-mark-preserved g c = mark_put g.M.Spelled.spelled c.args.marks.now c.loop-mark.mark-index c.mark-item.result c.loop-mark-test.true c.mark-item.is _ _ _ _ _ _ _ _ c.loop-mark.invariant c.put-at.ensures _ (c.as_bytes.ensures ∙ c.spelling.ensures) c.put-at-in-loop-mark.ensures
 
 pub returns : goal.returns
 returns g c = subst (λ xs. Put c.args.out.now c.loop-mark.out c.args.from (blanked g.M.Spelled.spelled xs) c.loop-mark.at) (take_all c.loop-mark.mark-index c.args.marks.now (omega arith)) c.loop-mark.invariant

@@ -7,8 +7,8 @@ use Rattle.brackets.proofs.writing.put_rows.Goals as goal
 pub loop-i-init : goal.loop-i-init
 loop-i-init g c = put_none _ _ (omega (arith, c.requires.room))
 
-pub put-line-at-requires : goal.put-line-at-requires
-put-line-at-requires g c =
+pub put_line-at-requires : goal.put_line-at-requires
+put_line-at-requires g c =
     let m = g.S.Sheet.meaning c.args.sheet.now in
     let s = c.loop-i.invariant in
     let after : length c.read.new.out ≡ m.cols = c.read.auto.out ∙ c.loop-i.auto.run ∙ c.requires.cols in
@@ -23,7 +23,7 @@ pub loop-i-preserved : goal.loop-i-preserved
 loop-i-preserved g c =
     let m = g.S.Sheet.meaning c.args.sheet.now in
     let after : length c.read.new.out ≡ m.cols = c.read.auto.out ∙ c.loop-i.auto.run ∙ c.requires.cols in
-    row_put g.M.Spelled.spelled m c.loop-i.i c.read.new.out after c.in-Ok.ensures.leaves.1 _ _ _ _ _ _ c.loop-i.invariant c.put-line-at.ensures
+    row_put g.M.Spelled.spelled m c.loop-i.i c.read.new.out after c.in-Ok.ensures.leaves.1 _ _ _ _ _ _ c.loop-i.invariant c.put_line-at.ensures
 
 pub returns : goal.returns
 returns g c =

@@ -14,10 +14,10 @@ use Rattle.flood.proofs.Laws.{lawful_of}
 use Rattle.flood.proofs.Spread.{skipped, fresh, fresh_apart, lowered, waits_still, entries_level, spreading_kept}
 use Rattle.flood.proofs.engine.cross.Goals as goal
 
-pub returns-in-default : goal.returns-in-default
-returns-in-default g c = record {
+pub returns-in_default : goal.returns-in_default
+returns-in_default g c = record {
   rest = (refl, refl);
-  done = (λ e. absurd (both_ways false refl e), λ e. nth_ended _ c.args.place (sym c.in-default.ensures));
+  done = (λ e. absurd (both_ways false refl e), λ e. nth_ended _ c.args.place (sym c.in_default.ensures));
   count = refl;
   queue = c.requires.queue;
   state = c.requires.state;
@@ -28,8 +28,8 @@ bounds-levels-node g c =
     let low = (g.G.Ground.laws c.args.ground.now).within c.args.from.node c.args.place c.in-Some.crossing.0 c.in-Some.crossing.1 (sym c.in-Some.ensures) in
     omega arith
 
-pub offset-bounds-levels-node : goal.offset-bounds-levels-node
-offset-bounds-levels-node g c =
+pub offset_bounds-levels-node : goal.offset_bounds-levels-node
+offset_bounds-levels-node g c =
     let low = (g.G.Ground.laws c.args.ground.now).within c.args.from.node c.args.place c.in-Some.crossing.0 c.in-Some.crossing.1 (sym c.in-Some.ensures) in
     let h : c.in-Some.crossing.0 < length c.args.levels.now = omega arith in search rules
 
@@ -38,18 +38,18 @@ bounds-levels-node-in-None g c =
     let low = (g.G.Ground.laws c.args.ground.now).within c.args.from.node c.args.place c.in-Some.crossing.0 c.in-Some.crossing.1 (sym c.in-Some.ensures) in
     omega arith
 
-pub offset-bounds-levels-node-in-None : goal.offset-bounds-levels-node-in-None
-offset-bounds-levels-node-in-None g c =
+pub offset_bounds-levels-node-in-None : goal.offset_bounds-levels-node-in-None
+offset_bounds-levels-node-in-None g c =
     let low = (g.G.Ground.laws c.args.ground.now).within c.args.from.node c.args.place c.in-Some.crossing.0 c.in-Some.crossing.1 (sym c.in-Some.ensures) in
     let h : c.in-Some.crossing.0 < length c.args.levels.now = omega arith in search rules
 
-pub bounds-levels-node-then-not-at-most : goal.bounds-levels-node-then-not-at-most
-bounds-levels-node-then-not-at-most g c =
+pub bounds-levels-node-then-not-at_most : goal.bounds-levels-node-then-not-at_most
+bounds-levels-node-then-not-at_most g c =
     let low = (g.G.Ground.laws c.args.ground.now).within c.args.from.node c.args.place c.in-Some.crossing.0 c.in-Some.crossing.1 (sym c.in-Some.ensures) in
     omega arith
 
-pub offset-bounds-levels-node-then-not-at-most : goal.offset-bounds-levels-node-then-not-at-most
-offset-bounds-levels-node-then-not-at-most g c =
+pub offset_bounds-levels-node-then-not-at_most : goal.offset_bounds-levels-node-then-not-at_most
+offset_bounds-levels-node-then-not-at_most g c =
     let low = (g.G.Ground.laws c.args.ground.now).within c.args.from.node c.args.place c.in-Some.crossing.0 c.in-Some.crossing.1 (sym c.in-Some.ensures) in
     let h : c.in-Some.crossing.0 < length c.args.levels.now = omega arith in search rules
 
@@ -87,7 +87,7 @@ lower-requires g c =
     let level_is : level ≡ highest g.G.Mark.Order.leb w c.args.from.level = c.higher-level.ensures in
     let old = c.in-Some-known.old in
     let lv : get_or ls far None ≡ Some old = sym (get_or_read ls far c.index-levels-node.result (omega arith) c.index-levels-node.is None) ∙ c.in-Some-known.is in
-    let strict : g.G.Mark.Order.leb old level ≡ false = sym c.at-most.ensures ∙ c.if-not-at-most.true in
+    let strict : g.G.Mark.Order.leb old level ≡ false = sym c.at_most.ensures ∙ c.if-not-at_most.true in
     record {
       ready = c.requires.queue.ready;
       waits = (waits_still laws far w level old c.requires.state read level_is lv strict).0;
@@ -122,8 +122,8 @@ returns-in-None g c =
       state = spreading_kept did.kept next;
     }
 
-pub returns-then-not-at-most : goal.returns-then-not-at-most
-returns-then-not-at-most g c =
+pub returns-then-not-at_most : goal.returns-then-not-at_most
+returns-then-not-at_most g c =
     let x = c.args.ground.now in
     let n = g.G.Ground.nodes x in
     let m = g.met.G.Mark.Order in
@@ -137,7 +137,7 @@ returns-then-not-at-most g c =
     let level_is : level ≡ highest g.G.Mark.Order.leb w c.args.from.level = c.higher-level.ensures in
     let old = c.in-Some-known.old in
     let lv : get_or ls far None ≡ Some old = sym (get_or_read ls far c.index-levels-node.result (omega arith) c.index-levels-node.is None) ∙ c.in-Some-known.is in
-    let strict : g.G.Mark.Order.leb old level ≡ false = sym c.at-most.ensures ∙ c.if-not-at-most.true in
+    let strict : g.G.Mark.Order.leb old level ≡ false = sym c.at_most.ensures ∙ c.if-not-at_most.true in
     let y : Entry g.row.G-Mark.Denot = record { level = level; node = far; origin = c.args.from.origin } in
     let did = c.lower.ensures in
     let put = did.leaves in
@@ -153,8 +153,8 @@ returns-then-not-at-most g c =
       state = spreading_kept did.kept next;
     }
 
-pub returns-else-not-at-most : goal.returns-else-not-at-most
-returns-else-not-at-most g c =
+pub returns-else-not-at_most : goal.returns-else-not-at_most
+returns-else-not-at_most g c =
     let x = c.args.ground.now in
     let n = g.G.Ground.nodes x in
     let m = g.met.G.Mark.Order in
@@ -168,7 +168,7 @@ returns-else-not-at-most g c =
     let level_is : level ≡ highest g.G.Mark.Order.leb w c.args.from.level = c.higher-level.ensures in
     let old = c.in-Some-known.old in
     let lv : get_or ls far None ≡ Some old = sym (get_or_read ls far c.index-levels-node.result (omega arith) c.index-levels-node.is None) ∙ c.in-Some-known.is in
-    let le : g.G.Mark.Order.leb old level ≡ true = sym c.at-most.ensures ∙ c.if-not-at-most.false in
+    let le : g.G.Mark.Order.leb old level ≡ true = sym c.at_most.ensures ∙ c.if-not-at_most.false in
     record {
       rest = (refl, refl);
       done = (λ e. nth_inside _ c.args.place (far, w) read, λ e. absurd (both_ways true e refl));

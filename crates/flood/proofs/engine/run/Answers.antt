@@ -53,7 +53,7 @@ returns g c =
     let n = g.G.Ground.nodes x in
     let laws = lawful_of g.G.Mark.Order g.G.Ground x m.total m.transitive m.antisymmetric in
     let l = c.loop-from in
-    let out = c.in-default.ensures.leaves in
+    let out = c.in_default.ensures.leaves in
     let first = c.start.ensures.rest in
     let going = subst (Going (graph_of g.G.Mark.Order g.G.Ground x) l.levels l.origins) (empty (waiting l.queue) out.0) l.invariant.0 in
     record {

@@ -3,8 +3,8 @@ use Rattle.flood.proofs.Laws.{lawful_of}
 use Rattle.flood.proofs.Spread.{over}
 use Rattle.flood.proofs.engine.spread.Goals as goal
 
-pub overflow-add-place : goal.overflow-add-place
-overflow-add-place g c =
+pub overflow_add-place : goal.overflow_add-place
+overflow_add-place g c =
     let short = (g.G.Ground.laws c.args.ground.now).short c.args.from.node in
     let inside = c.loop-from-test.ensures.done.0 refl in
     omega arith

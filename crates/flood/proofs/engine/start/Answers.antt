@@ -7,7 +7,7 @@ use Rattle.flood.proofs.Ends.{lacks, missing_push, fill_none, fill_dry, fill_dra
 use Rattle.flood.proofs.Laws.{lawful_of}
 use Rattle.flood.proofs.Places.{ready_apart}
 use Rattle.flood.proofs.engine.start.Goals as goal
-use Rattle.flood.proofs.engine.start.Goals.{in-Some, in-default}
+use Rattle.flood.proofs.engine.start.Goals.{in-Some, in_default}
 
 pub loop-node-init : goal.loop-node-init
 loop-node-init g c =
@@ -54,9 +54,9 @@ loop-node-preserved g c =
             frame-ls,
             rw w.origins-is (kept.rest n all ∙ frame-os),
           )
-      | in-default w ↦ (
-        (let bare : lacks level ≡ 1 = ap lacks w.in-default.is in rw w.queue-is (omega (arith, inv.0))),
-        rw (w.in-default.is, w.origins-is, w.queue-is) (fill_dry laws inv.1 in-ls in-os (sym w.in-default.ensures)),
+      | in_default w ↦ (
+        (let bare : lacks level ≡ 1 = ap lacks w.in_default.is in rw w.queue-is (omega (arith, inv.0))),
+        rw (w.in_default.is, w.origins-is, w.queue-is) (fill_dry laws inv.1 in-ls in-os (sym w.in_default.ensures)),
         rw (w.origins-is, w.queue-is) (ready_apart i None (fill_apart laws inv.1) inv.2),
         rw w.queue-is inv.3,
         frame-ls,

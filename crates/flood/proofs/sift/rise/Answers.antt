@@ -14,8 +14,8 @@ loop-at-init g c =
     let same : set xs at x ≡ xs = ap (set xs at) c.index-slots-at.is ∙ set-get_or xs at x in
     (omega arith, c.requires, refl, subst (λ l. Risen le tr xs at l at) (sym same) (rise_begins le tr xs at), subst (λ l. Climbed xs at l at) (sym same) (climb_begins xs at))
 
-pub returns-then-at-most : goal.returns-then-at-most
-returns-then-at-most g c =
+pub returns-then-at_most : goal.returns-then-at_most
+returns-then-at_most g c =
     let le = g.E.Order.leb in
     let l = c.loop-at in
     let at = l.at in
@@ -26,7 +26,7 @@ returns-then-at-most g c =
     record {
       len = length-set l.slots at x ∙ l.invariant.2;
       rises = rise_rests le g.met.E.Order.transitive c.args.slots.now (set l.slots at x) c.args.at up at (omega arith) (omega arith)
-          (hole_compares (λ a b. le b a ≡ true) l.slots at up x p (omega arith) (omega arith) is (sym c.if-at-most.ensures))
+          (hole_compares (λ a b. le b a ≡ true) l.slots at up x p (omega arith) (omega arith) is (sym c.if-at_most.ensures))
           l.invariant.3;
       moves = (climb_ends c.args.slots.now (set l.slots at x) c.args.at at l.invariant.4, l.invariant.0);
     }
@@ -49,7 +49,7 @@ loop-at-preserved g c =
       l.invariant.1,
       long ∙ l.invariant.2,
       rise_steps le laws.transitive xs (set ys at x) (set (set ys at p) up x) c.args.at up at x (omega arith) (omega arith) l.invariant.0 (length-set ys at x ∙ l.invariant.2) swap
-          (hole_compares (λ a b. le a b ≡ true) ys at up x p (omega arith) (omega arith) is (laws.total p x (sym c.if-at-most.ensures)))
+          (hole_compares (λ a b. le a b ≡ true) ys at up x p (omega arith) (omega arith) is (laws.total p x (sym c.if-at_most.ensures)))
           l.invariant.3,
       climb_steps xs (set ys at x) (set (set ys at p) up x) c.args.at at c.loop-at-test.true swap l.invariant.4,
     )

@@ -17,25 +17,25 @@ loop-at-init g c =
 pub bounds-slots-at-2 : goal.bounds-slots-at-2
 bounds-slots-at-2 g c = omega (arith, c.loop-at.invariant.1)
 
-pub offset-bounds-slots-at-2 : goal.offset-bounds-slots-at-2
-offset-bounds-slots-at-2 g c = let h : c.loop-at.at < length c.loop-at.slots = omega (arith, c.loop-at.invariant.1) in search rules
+pub offset_bounds-slots-at-2 : goal.offset_bounds-slots-at-2
+offset_bounds-slots-at-2 g c = let h : c.loop-at.at < length c.loop-at.slots = omega (arith, c.loop-at.invariant.1) in search rules
 
-pub returns-then-at-most : goal.returns-then-at-most
-returns-then-at-most g c =
+pub returns-then-at_most : goal.returns-then-at_most
+returns-then-at_most g c =
     let le = g.E.Order.leb in
     let tr = g.met.E.Order.transitive in
     let l = c.loop-at in
     let at = l.at in
-    let child = c.lesser-child-child.result in
-    let bound = c.lesser-child-child.ensures.bound in
+    let child = c.lesser_child-child.result in
+    let bound = c.lesser_child-child.ensures.bound in
     let x = c.index-slots-0.result in
     let p = c.index-slots-child.result in
     let is : (d : _) → get_or l.slots child d ≡ p = λ d. sym (get_or_read l.slots child p (omega arith) c.index-slots-child.is d) in
     record {
       len = length-set l.slots at x ∙ l.invariant.0;
       sinks = sink_rests le tr c.args.slots.now (set l.slots at x) c.args.len at child
-          (hole_compares (λ a b. le a b ≡ true) l.slots at child x p (omega arith) (omega arith) is (sym c.if-at-most.ensures))
-          (best_hole le tr l.slots at child c.args.len x bound.1 c.lesser-child-child.ensures.best) l.invariant.2;
+          (hole_compares (λ a b. le a b ≡ true) l.slots at child x p (omega arith) (omega arith) is (sym c.if-at_most.ensures))
+          (best_hole le tr l.slots at child c.args.len x bound.1 c.lesser_child-child.ensures.best) l.invariant.2;
       moves = l.invariant.3;
     }
 
@@ -49,8 +49,8 @@ loop-at-preserved g c =
     let ys = l.slots in
     let n = c.args.len in
     let at = l.at in
-    let child = c.lesser-child-child.result in
-    let bound = c.lesser-child-child.ensures.bound in
+    let child = c.lesser_child-child.result in
+    let bound = c.lesser_child-child.ensures.bound in
     let x = c.index-slots-0.result in
     let p = c.index-slots-child.result in
     let is : (d : _) → get_or ys child d ≡ p = λ d. sym (get_or_read ys child p (omega arith) c.index-slots-child.is d) in
@@ -60,8 +60,8 @@ loop-at-preserved g c =
       long ∙ l.invariant.0,
       omega (arith, c.requires),
       sink_steps le tr xs (set ys at x) (set (set ys at p) child x) n at child x bound.1 bound.2 bound.0 (omega (arith, c.requires)) swap
-          (hole_compares (λ a b. le b a ≡ true) ys at child x p (omega arith) (omega arith) is (laws.total x p (sym c.if-at-most.ensures)))
-          (best_hole le tr ys at child n x bound.1 c.lesser-child-child.ensures.best) l.invariant.2,
+          (hole_compares (λ a b. le b a ≡ true) ys at child x p (omega arith) (omega arith) is (laws.total x p (sym c.if-at_most.ensures)))
+          (best_hole le tr ys at child n x bound.1 c.lesser_child-child.ensures.best) l.invariant.2,
       fall_steps xs (set ys at x) (set (set ys at p) child x) n at child bound.1 bound.2 swap l.invariant.3,
     )
 

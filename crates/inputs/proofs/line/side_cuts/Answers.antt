@@ -3,24 +3,24 @@ use Rattle.std.proofs.lemmas.Result.{err_from_is_err_and}
 use Rattle.inputs.proofs.Listing.{Listed, first_lost, listed_none, cut_not_there, listed_more, listed_all}
 use Rattle.inputs.proofs.line.side_cuts.Goals as goal
 
-pub returns-in-err-more : goal.returns-in-err-more
-returns-in-err-more c =
+pub returns-in_err-more : goal.returns-in_err-more
+returns-in_err-more c =
     let p = err_from_is_err_and c.from-residual.result c.from-residual.ensures.1 in
-    rw (p.1, p.2) (first_lost c.args.bytes.now c.args.from c.requires _ c.in-err-more.ensures)
+    rw (p.1, p.2) (first_lost c.args.bytes.now c.args.from c.requires _ c.in_err-more.ensures)
 
 pub loop-more-init : goal.loop-more-init
-loop-more-init c = listed_none c.args.bytes.now c.args.from c.requires _ c.in-ok-more.more refl c.in-ok-more.ensures
+loop-more-init c = listed_none c.args.bytes.now c.args.from c.requires _ c.in_ok-more.more refl c.in_ok-more.ensures
 
-pub returns-in-err-step : goal.returns-in-err-step
-returns-in-err-step c =
-    let p = err_from_is_err_and c.from-residual-in-err-step.result c.from-residual-in-err-step.ensures.1 in
+pub returns-in_err-step : goal.returns-in_err-step
+returns-in_err-step c =
+    let p = err_from_is_err_and c.from-residual-in_err-step.result c.from-residual-in_err-step.ensures.1 in
     let s = subst (λ v. Listed c.args.bytes.now c.args.from c.loop-more.places c.loop-more.count v c.loop-more.at) c.loop-more-test.true c.loop-more.invariant in
-    rw (p.1, p.2) (cut_not_there _ _ _ c.loop-more.count c.loop-more.at s _ c.in-err-step.ensures)
+    rw (p.1, p.2) (cut_not_there _ _ _ c.loop-more.count c.loop-more.at s _ c.in_err-step.ensures)
 
 pub loop-more-preserved : goal.loop-more-preserved
 loop-more-preserved c =
     let s = subst (λ v. Listed c.args.bytes.now c.args.from c.loop-more.places c.loop-more.count v c.loop-more.at) c.loop-more-test.true c.loop-more.invariant in
-    listed_more c.args.bytes.now c.args.from c.loop-more.places c.loop-more.count c.loop-more.at s c.in-ok-step.step.cut c.in-ok-step.step.more c.in-ok-step.step.end c.in-ok-step.ensures
+    listed_more c.args.bytes.now c.args.from c.loop-more.places c.loop-more.count c.loop-more.at s c.in_ok-step.step.cut c.in_ok-step.step.more c.in_ok-step.step.end c.in_ok-step.ensures
 
 pub returns : goal.returns
 returns c = listed_all c.args.bytes.now c.args.from c.loop-more.places c.loop-more.count c.loop-more.more c.loop-more.at c.loop-more-test.false c.loop-more.invariant

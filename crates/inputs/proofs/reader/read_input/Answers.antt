@@ -8,26 +8,26 @@ use Rattle.inputs.proofs.reader.read_input.Goals as goal
 laws : (g : given.Over) → Spelling g.M.Spelled.spelled
 laws g = let m = g.met.M.CodedMark in record { one = g.M.Mark.lowest; distinct = m.distinct; clear = m.clear }
 
-pub returns-in-err-head : goal.returns-in-err-head
-returns-in-err-head g c =
+pub returns-in_err-head : goal.returns-in_err-head
+returns-in_err-head g c =
     let p = err_from_is_err_and c.from-residual.result c.from-residual.ensures.1 in
-    rw (p.1, p.2) (sheet_lost _ _ (laws g) _ _ c.in-err-head.ensures)
+    rw (p.1, p.2) (sheet_lost _ _ (laws g) _ _ c.in_err-head.ensures)
 
-pub cut-line-requires : goal.cut-line-requires
-cut-line-requires g c = let h = c.in-ok-head.ensures in (line_going _ _ (laws g) c.args.bytes.now h.0 _ h.1).within
+pub cut_line-requires : goal.cut_line-requires
+cut_line-requires g c = let h = c.in_ok-head.ensures in (line_going _ _ (laws g) c.args.bytes.now h.0 _ h.1).within
 
-pub returns-in-err-cuts : goal.returns-in-err-cuts
-returns-in-err-cuts g c =
-    let p = err_from_is_err_and c.from-residual-in-err-cuts.result c.from-residual-in-err-cuts.ensures.1 in
-    let h = c.in-ok-head.ensures in
-    rw (p.1, p.2) (line_lost _ _ (laws g) _ h.0 _ h.1 _ c.in-err-cuts.ensures)
+pub returns-in_err-cuts : goal.returns-in_err-cuts
+returns-in_err-cuts g c =
+    let p = err_from_is_err_and c.from-residual-in_err-cuts.result c.from-residual-in_err-cuts.ensures.1 in
+    let h = c.in_ok-head.ensures in
+    rw (p.1, p.2) (line_lost _ _ (laws g) _ h.0 _ h.1 _ c.in_err-cuts.ensures)
 
 pub returns-then-cuts-bytes : goal.returns-then-cuts-bytes
 returns-then-cuts-bytes g c =
-    let h = c.in-ok-head.ensures in
-    more_behind _ _ (laws g) _ h.0 _ h.1 _ _ _ c.in-ok-cuts.ensures c.if-cuts-bytes.true
+    let h = c.in_ok-head.ensures in
+    more_behind _ _ (laws g) _ h.0 _ h.1 _ _ _ c.in_ok-cuts.ensures c.if-cuts-bytes.true
 
 pub returns : goal.returns
 returns g c =
-    let h = c.in-ok-head.ensures in
-    (h.0, all_read _ _ (laws g) _ h.0 _ h.1 _ _ _ c.in-ok-cuts.ensures c.if-cuts-bytes.false, h.2, h.3, h.1.place ∙ zero-add _)
+    let h = c.in_ok-head.ensures in
+    (h.0, all_read _ _ (laws g) _ h.0 _ h.1 _ _ _ c.in_ok-cuts.ensures c.if-cuts-bytes.false, h.2, h.3, h.1.place ∙ zero-add _)

@@ -17,21 +17,21 @@ told_past : {A B C : Type 0} (p p' : Plan) (m q : ℕ) (ls : List A) (os : List 
 told_past p p' m q ls os hs t same e f =
     passes (tables_short p m q) 4 ((short (mouths p) ls os hs, 5) ∷ []) tt t (passed (tables_short p m q) 4 [] tt tt e).0 (f ∙ ap (λ z. checked ((short (mouths z) ls os hs, 5) ∷ []) tt) same)
 
-pub returns-in-err-ground : goal.returns-in-err-ground
-returns-in-err-ground g c =
+pub returns-in_err-ground : goal.returns-in_err-ground
+returns-in_err-ground g c =
     let p = err_from_is_err_and c.from-residual.result c.from-residual.ensures.1 in
     rw (p.1, p.2) (record {
-      told = still_refused (tables_short (plan_of c.args.cuts.now) (length c.args.mouths.now) (length c.args.passes.now)) _ _ 4 ((short (mouths (plan_of c.args.cuts.now)) c.args.levels.now c.args.origins.now c.args.heap.now, 5) ∷ []) _ tt c.in-err-ground.ensures.told;
+      told = still_refused (tables_short (plan_of c.args.cuts.now) (length c.args.mouths.now) (length c.args.passes.now)) _ _ 4 ((short (mouths (plan_of c.args.cuts.now)) c.args.levels.now c.args.origins.now c.args.heap.now, 5) ∷ []) _ tt c.in_err-ground.ensures.told;
       leaves = (refl, refl, refl);
     })
 
 pub returns : goal.returns
 returns g c =
-    let made = c.in-ok-ground.ensures.made in
+    let made = c.in_ok-ground.ensures.made in
     let κ = kind_of g.M.Order g.row.M-Mark in
     let p = plan_of c.args.cuts.now in
     let is-plan = ap plan_of made.0 in
     record {
-      told = told_past p (plan_of c.in-ok-ground.ground.cuts) (length c.args.mouths.now) (length c.args.passes.now) _ _ _ _ is-plan c.in-ok-ground.ensures.told c.flood.ensures.told;
+      told = told_past p (plan_of c.in_ok-ground.ground.cuts) (length c.args.mouths.now) (length c.args.passes.now) _ _ _ _ is-plan c.in_ok-ground.ensures.told c.flood.ensures.told;
       leaves = subst (λ G. Leaves G c.flood.result c.flood.new.levels c.args.levels.now c.flood.new.origins c.args.origins.now c.flood.new.slots c.args.heap.now) (λ i. mouth_graph κ (plan_of (made.0 i)) (tables (made.1 i) (made.2 i))) c.flood.ensures.leaves;
     }

@@ -8,11 +8,11 @@ use Rattle.tables.specs.Records.{mouth_with}
 use Rattle.settling.specs.Grounds.{Kept}
 use Rattle.settling.proofs.sills.keep_sills.Goals as goal
 
-pub offset-bounds-mouths-k : goal.offset-bounds-mouths-k
-offset-bounds-mouths-k g c = let h : c.loop-k.k < length c.args.mouths.now = omega (arith, c.requires, c.loop-k-test.true) in search rules
+pub offset_bounds-mouths-k : goal.offset_bounds-mouths-k
+offset_bounds-mouths-k g c = let h : c.loop-k.k < length c.args.mouths.now = omega (arith, c.requires, c.loop-k-test.true) in search rules
 
-pub offset-bounds-mouths-k-in-loop-k : goal.offset-bounds-mouths-k-in-loop-k
-offset-bounds-mouths-k-in-loop-k g c = let h : c.loop-k.k < length c.args.mouths.now = omega (arith, c.requires, c.loop-k-test.true) in search rules
+pub offset_bounds-mouths-k-in-loop-k : goal.offset_bounds-mouths-k-in-loop-k
+offset_bounds-mouths-k-in-loop-k g c = let h : c.loop-k.k < length c.args.mouths.now = omega (arith, c.requires, c.loop-k-test.true) in search rules
 
 -- what stands elsewhere, and in the place that was written
 nth_other : {X : Type 0} (xs : List X) (i k : ℕ) (x : X) → (i ≡ k → ⊥) → slice_get (set xs k x) i ≡ slice_get xs i

@@ -49,16 +49,16 @@ settled κ p w ls os n ms is f k = record {
   passes = refl;
 }
 
-pub returns-in-err-flood-mouths : goal.returns-in-err-flood-mouths
-returns-in-err-flood-mouths g c =
+pub returns-in_err-flood_mouths : goal.returns-in_err-flood_mouths
+returns-in_err-flood_mouths g c =
     let p = err_from_is_err_and c.from-residual.result c.from-residual.ensures.1 in
-    let left = c.in-err-flood-mouths.ensures.leaves in
-    rw (p.1, p.2) (record { told = c.in-err-flood-mouths.ensures.told; leaves = refl; sills = tt; scratch = (left.0, (left.1, left.2)) })
+    let left = c.in_err-flood_mouths.ensures.leaves in
+    rw (p.1, p.2) (record { told = c.in_err-flood_mouths.ensures.told; leaves = refl; sills = tt; scratch = (left.0, (left.1, left.2)) })
 
-pub keep-sills-requires : goal.keep-sills-requires
-keep-sills-requires g c =
-    let r = roomy (plan_of c.args.cuts.now) (length c.args.mouths.now) (length c.args.passes.now) c.args.levels.now c.args.origins.now c.args.heap.now c.in-ok-flood-mouths.ensures.told in
-    (omega (arith, r.0, c.mouths.ensures.value), omega (arith, r.1, c.mouths.ensures.value, c.flood-mouths.auto.levels))
+pub keep_sills-requires : goal.keep_sills-requires
+keep_sills-requires g c =
+    let r = roomy (plan_of c.args.cuts.now) (length c.args.mouths.now) (length c.args.passes.now) c.args.levels.now c.args.origins.now c.args.heap.now c.in_ok-flood_mouths.ensures.told in
+    (omega (arith, r.0, c.mouths.ensures.value), omega (arith, r.1, c.mouths.ensures.value, c.flood_mouths.auto.levels))
 
 pub returns : goal.returns
 returns g c =
@@ -66,10 +66,10 @@ returns g c =
     let p = plan_of c.args.cuts.now in
     let w = tables c.args.mouths.now c.args.passes.now in
     let O : OrderLaws κ.leb = record { total = g.met.M.Order.total; transitive = g.met.M.Order.transitive; antisymmetric = g.met.M.Order.antisymmetric } in
-    let done = settled κ p w c.flood-mouths.new.levels c.flood-mouths.new.origins c.mouths.result c.keep-sills.new.mouths c.mouths.ensures.value c.in-ok-flood-mouths.ensures.leaves.0 c.keep-sills.ensures in
+    let done = settled κ p w c.flood_mouths.new.levels c.flood_mouths.new.origins c.mouths.result c.keep_sills.new.mouths c.mouths.ensures.value c.in_ok-flood_mouths.ensures.leaves.0 c.keep_sills.ensures in
     record {
-      told = c.in-ok-flood-mouths.ensures.told;
+      told = c.in_ok-flood_mouths.ensures.told;
       leaves = done;
-      sills = λ sheet fit all. settled_sills κ O sheet p (lawful_plan c.args.cuts.now) fit w all c.keep-sills.new.mouths done.sills;
-      scratch = (c.flood-mouths.auto.levels, (c.flood-mouths.auto.origins, c.flood-mouths.auto.heap));
+      sills = λ sheet fit all. settled_sills κ O sheet p (lawful_plan c.args.cuts.now) fit w all c.keep_sills.new.mouths done.sills;
+      scratch = (c.flood_mouths.auto.levels, (c.flood_mouths.auto.origins, c.flood_mouths.auto.heap));
     }

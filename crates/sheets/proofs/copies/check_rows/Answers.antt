@@ -8,16 +8,16 @@ use Rattle.sheets.proofs.copies.check_rows.Goals as goal
 pub loop-i-preserved : goal.loop-i-preserved
 loop-i-preserved g c =
     let m = g.S.Sheet.meaning c.args.source.now in
-    let told = c.in-ok-read.ensures.told in
+    let told = c.in_ok-read.ensures.told in
     let whole = (passed _ _ [] _ _ (passed _ _ (_ ∷ []) _ _ told).1).0 in
     rows_more m c.args.from _ c.loop-i.i c.loop-i.invariant (ap (broken m (c.args.from.row + c.loop-i.i) c.args.from.col) (sym c.loop-i.auto.run) ∙ whole)
 
-pub returns-in-err-read : goal.returns-in-err-read
-returns-in-err-read g c =
+pub returns-in_err-read : goal.returns-in_err-read
+returns-in_err-read g c =
     let m = g.S.Sheet.meaning c.args.source.now in
     let row = c.args.from.row + c.loop-i.i in
     let col = c.args.from.col in
     let p = err_from_is_err_and c.from-residual.result c.from-residual.ensures.1 in
     let inside : outside m row col (length c.loop-i.run) ≡ false = fits_run m.rows m.cols row col _ (omega arith) (omega (arith, c.loop-i.auto.run)) in
-    let told = past _ _ (_ ∷ []) _ _ inside c.in-err-read.ensures.told in
+    let told = past _ _ (_ ∷ []) _ _ inside c.in_err-read.ensures.told in
     rw (p.1, p.2) (carried _ _ _ _ _ [] _ _ (λ b. rows_broken m c.args.from _ c.args.height c.loop-i.i c.loop-i-test.true (ap (broken m row col) (sym c.loop-i.auto.run) ∙ b)) told)

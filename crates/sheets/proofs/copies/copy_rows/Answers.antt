@@ -4,8 +4,8 @@ use Rattle.sheets.proofs.Checks.{fits_run}
 use Rattle.sheets.proofs.Rectangles.{rows_whole, copied_more}
 use Rattle.sheets.proofs.copies.copy_rows.Goals as goal
 
-pub copy-row-requires : goal.copy-row-requires
-copy-row-requires g c =
+pub copy_row-requires : goal.copy_row-requires
+copy_row-requires g c =
     let m = g.S.Sheet.meaning c.args.source.now in
     let n = g.T.Sheet.meaning c.loop-i.target in
     let from = c.args.from in
@@ -20,7 +20,7 @@ copy-row-requires g c =
 
 pub loop-i-preserved : goal.loop-i-preserved
 loop-i-preserved g c =
-    let done = c.copy-row.ensures in (
-      copied_more _ _ _ _ _ _ c.loop-i.i _ c.copy-row.new.run c.loop-i.invariant.0 (c.copy-row.auto.run ∙ c.loop-i.auto.run) (omega arith) (omega arith) done.run done.leaves,
+    let done = c.copy_row.ensures in (
+      copied_more _ _ _ _ _ _ c.loop-i.i _ c.copy_row.new.run c.loop-i.invariant.0 (c.copy_row.auto.run ∙ c.loop-i.auto.run) (omega arith) (omega arith) done.run done.leaves,
       done.loans ∙ c.loop-i.invariant.1,
     )

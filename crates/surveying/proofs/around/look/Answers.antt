@@ -8,13 +8,13 @@ use Rattle.tiles.specs.Plans.{area_of}
 use Rattle.surveying.proofs.Turning.{origin_some, origin_in_lem, mouth_some, mouth_below, turn_passes, turn_room, turn_joins}
 use Rattle.surveying.proofs.around.look.Goals as goal
 
-pub returns-in-default : goal.returns-in-default
-returns-in-default g c =
+pub returns-in_default : goal.returns-in_default
+returns-in_default g c =
     let κ = kind_of g.M.Order g.M.Mark in
     let O : OrderLaws κ.leb = record { total = g.met.M.Order.total; transitive = g.met.M.Order.transitive; antisymmetric = g.met.M.Order.antisymmetric } in
     let r = c.args in
     λ C q T. turn_passes κ O (area_of r.block.now) r.levels.now r.origins.now C q r.first r.from r.cell r.labels.now r.passes.now r.count
-    (λ U. absurd (origin_some κ O (area_of r.block.now) r.levels.now r.origins.now C r.cell c.requires.near.inside c.in-default.is)) T
+    (λ U. absurd (origin_some κ O (area_of r.block.now) r.levels.now r.origins.now C r.cell c.requires.near.inside c.in_default.is)) T
 
 pub returns-then-origin-from : goal.returns-then-origin-from
 returns-then-origin-from g c =
@@ -24,18 +24,18 @@ returns-then-origin-from g c =
     λ C q T. turn_passes κ O (area_of r.block.now) r.levels.now r.origins.now C q r.first r.from r.cell r.labels.now r.passes.now r.count
     (λ U. c.requires.from.origin ∙ ap Some (sym c.if-origin-from.true) ∙ sym c.in-Some.is) T
 
-pub returns-in-default-reached : goal.returns-in-default-reached
-returns-in-default-reached g c =
+pub returns-in_default-reached : goal.returns-in_default-reached
+returns-in_default-reached g c =
     let κ = kind_of g.M.Order g.M.Mark in
     let O : OrderLaws κ.leb = record { total = g.met.M.Order.total; transitive = g.met.M.Order.transitive; antisymmetric = g.met.M.Order.antisymmetric } in
     let r = c.args in
     let inside : r.cell < length r.levels.now = omega (arith, c.requires.near.inside, c.requires.slices.0) in
-    let is = sym (get_or_read r.levels.now r.cell c.index-levels-cell.result inside c.index-levels-cell.is None) ∙ c.in-default-reached.is in
+    let is = sym (get_or_read r.levels.now r.cell c.index-levels-cell.result inside c.index-levels-cell.is None) ∙ c.in_default-reached.is in
     λ C q T. turn_passes κ O (area_of r.block.now) r.levels.now r.origins.now C q r.first r.from r.cell r.labels.now r.passes.now r.count
     (λ U. absurd (none_some (get_or r.levels.now r.cell None) U.lower is U.at_d)) T
 
-pub returns-then-not-at-most : goal.returns-then-not-at-most
-returns-then-not-at-most g c =
+pub returns-then-not-at_most : goal.returns-then-not-at_most
+returns-then-not-at_most g c =
     let κ = kind_of g.M.Order g.M.Mark in
     let O : OrderLaws κ.leb = record { total = g.met.M.Order.total; transitive = g.met.M.Order.transitive; antisymmetric = g.met.M.Order.antisymmetric } in
     let r = c.args in
@@ -45,22 +45,22 @@ returns-then-not-at-most g c =
     (λ U.
     let low = some_same (get_or r.levels.now r.cell None) U.lower c.in-Some-reached.level U.at_d is in
     let high = some_same (get_or r.levels.now r.from.node None) U.upper r.from.level U.at_c c.requires.from.level in
-    absurd (both_ways (κ.leb c.in-Some-reached.level r.from.level) (sym c.if-not-at-most.ensures)
+    absurd (both_ways (κ.leb c.in-Some-reached.level r.from.level) (sym c.if-not-at_most.ensures)
     ((λ i. κ.leb (sym low i) (sym high i)) ∙ U.under))) T
 
-pub mouth-of-requires : goal.mouth-of-requires
-mouth-of-requires g c =
+pub mouth_of-requires : goal.mouth_of-requires
+mouth_of-requires g c =
     let κ = kind_of g.M.Order g.M.Mark in
     let O : OrderLaws κ.leb = record { total = g.met.M.Order.total; transitive = g.met.M.Order.transitive; antisymmetric = g.met.M.Order.antisymmetric } in
     let r = c.args in
     origin_in_lem κ O (area_of r.block.now) r.levels.now r.origins.now c.requires.turn.0 r.cell c.in-Some.origin c.requires.near.inside c.in-Some.is
 
-pub returns-in-default-mouth-of : goal.returns-in-default-mouth-of
-returns-in-default-mouth-of g c =
+pub returns-in_default-mouth_of : goal.returns-in_default-mouth_of
+returns-in_default-mouth_of g c =
     let κ = kind_of g.M.Order g.M.Mark in
     let O : OrderLaws κ.leb = record { total = g.met.M.Order.total; transitive = g.met.M.Order.transitive; antisymmetric = g.met.M.Order.antisymmetric } in
     let r = c.args in
-    λ C q T. absurd (mouth_some κ O (area_of r.block.now) r.levels.now r.origins.now C r.cell c.in-Some.origin c.requires.near.inside c.in-Some.is (sym c.in-default-mouth-of.ensures))
+    λ C q T. absurd (mouth_some κ O (area_of r.block.now) r.levels.now r.origins.now C r.cell c.in-Some.origin c.requires.near.inside c.in-Some.is (sym c.in_default-mouth_of.ensures))
 
 pub join-requires : goal.join-requires
 join-requires g c =
@@ -71,15 +71,15 @@ join-requires g c =
     let turn = c.requires.turn in
     let inside : r.cell < length r.levels.now = omega (arith, c.requires.near.inside, c.requires.slices.0) in
     let is = sym (get_or_read r.levels.now r.cell c.index-levels-cell.result inside c.index-levels-cell.is None) ∙ c.in-Some-reached.is in
-    let to = sym c.in-Some-mouth-of.ensures in
+    let to = sym c.in-Some-mouth_of.ensures in
     record {
       labels = (
         mouth_below κ O a r.levels.now r.origins.now turn.0 r.first _ _ r.labels.now r.passes.now r.count turn.2 r.from.origin r.x c.requires.mouth,
-        mouth_below κ O a r.levels.now r.origins.now turn.0 r.first _ _ r.labels.now r.passes.now r.count turn.2 c.in-Some.origin c.in-Some-mouth-of.y to,
+        mouth_below κ O a r.levels.now r.origins.now turn.0 r.first _ _ r.labels.now r.passes.now r.count turn.2 c.in-Some.origin c.in-Some-mouth_of.y to,
         c.requires.slices.2,
       );
-      room = turn_room κ O a r.levels.now r.origins.now turn.0 turn.1 r.first r.from c.requires.from r.cell c.in-Some.origin c.in-Some-reached.level c.requires.near c.in-Some.is c.if-origin-from.false is (sym c.if-not-at-most.ensures)
-          r.x c.in-Some-mouth-of.y c.requires.mouth to r.labels.now r.passes.now r.count turn.2;
+      room = turn_room κ O a r.levels.now r.origins.now turn.0 turn.1 r.first r.from c.requires.from r.cell c.in-Some.origin c.in-Some-reached.level c.requires.near c.in-Some.is c.if-origin-from.false is (sym c.if-not-at_most.ensures)
+          r.x c.in-Some-mouth_of.y c.requires.mouth to r.labels.now r.passes.now r.count turn.2;
     }
 
 pub returns : goal.returns
@@ -89,5 +89,5 @@ returns g c =
     let r = c.args in
     let inside : r.cell < length r.levels.now = omega (arith, c.requires.near.inside, c.requires.slices.0) in
     let is = sym (get_or_read r.levels.now r.cell c.index-levels-cell.result inside c.index-levels-cell.is None) ∙ c.in-Some-reached.is in
-    λ C q T. turn_joins κ O (area_of r.block.now) r.levels.now r.origins.now C q r.first r.from c.requires.from r.cell c.in-Some.origin c.in-Some-reached.level c.requires.near c.in-Some.is c.if-origin-from.false is (sym c.if-not-at-most.ensures)
-    r.x c.in-Some-mouth-of.y c.requires.mouth (sym c.in-Some-mouth-of.ensures) r.labels.now r.passes.now r.count T c.join.new.labels c.join.new.passes c.join.result c.join.ensures
+    λ C q T. turn_joins κ O (area_of r.block.now) r.levels.now r.origins.now C q r.first r.from c.requires.from r.cell c.in-Some.origin c.in-Some-reached.level c.requires.near c.in-Some.is c.if-origin-from.false is (sym c.if-not-at_most.ensures)
+    r.x c.in-Some-mouth_of.y c.requires.mouth (sym c.in-Some-mouth_of.ensures) r.labels.now r.passes.now r.count T c.join.new.labels c.join.new.passes c.join.result c.join.ensures

@@ -19,10 +19,10 @@ returns g c =
     let same : h * w ≡ cells_of (area_of b) = (λ i. c.height.ensures i * c.width.ensures i) in
     let tall : (1 ≤ h) × (h ≤ 2048) = (omega (arith, c.height.ensures, b.tall), omega (arith, c.height.ensures, b.low)) in
     let wide : (1 ≤ w) × (w ≤ 2048) = (omega (arith, c.width.ensures, b.wide), omega (arith, c.width.ensures, b.near)) in
-    let long : length c.read-block.new.marks ≡ h * w = c.read-block.auto.marks ∙ c.requires.marks ∙ sym same in
+    let long : length c.read_block.new.marks ≡ h * w = c.read_block.auto.marks ∙ c.requires.marks ∙ sym same in
     let room : short (h * w) c.args.levels.now c.args.origins.now c.args.heap.now ≡ false = ap (λ n. short n c.args.levels.now c.args.origins.now c.args.heap.now) same ∙ c.requires.room in
     record {
-      told = passes (dead_in m (area_of b)) 7 [] tt (told c.flood-cells.result) (none_dead κ m (area_of b) h w c.height.ensures c.width.ensures (length c.args.marks.now) c.in-ok-read-block.ensures.told)
-          (c.flood-cells.ensures.told ∙ floods h w (length c.read-block.new.marks) c.args.levels.now c.args.origins.now c.args.heap.now tall wide long room);
-      leaves = flooded_left κ m (area_of b) h w c.height.ensures c.width.ensures c.read-block.new.marks _ _ _ _ _ _ c.flood-cells.result c.in-ok-read-block.ensures.leaves c.flood-cells.ensures.leaves;
+      told = passes (dead_in m (area_of b)) 7 [] tt (told c.flood_cells.result) (none_dead κ m (area_of b) h w c.height.ensures c.width.ensures (length c.args.marks.now) c.in_ok-read_block.ensures.told)
+          (c.flood_cells.ensures.told ∙ floods h w (length c.read_block.new.marks) c.args.levels.now c.args.origins.now c.args.heap.now tall wide long room);
+      leaves = flooded_left κ m (area_of b) h w c.height.ensures c.width.ensures c.read_block.new.marks _ _ _ _ _ _ c.flood_cells.result c.in_ok-read_block.ensures.leaves c.flood_cells.ensures.leaves;
     }

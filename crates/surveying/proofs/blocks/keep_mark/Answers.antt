@@ -7,15 +7,15 @@ use Rattle.surveying.specs.Blocks.{cell_number}
 use Rattle.surveying.proofs.Marking.{number_in, few_cells}
 use Rattle.surveying.proofs.blocks.keep_mark.Goals as goal
 
-pub overflow-mul-number : goal.overflow-mul-number
-overflow-mul-number g c =
+pub overflow_mul-number : goal.overflow_mul-number
+overflow_mul-number g c =
     let b = c.args.block.now in
     let n = number_in (area_of b) c.in-Some.cell.0 c.in-Some.cell.1 c.args.index c.in-Some.ensures in
     let small = few_cells (c.in-Some.cell.0 - b.top) 0 c.width.result (omega (arith, n.3, b.low)) (omega (arith, c.width.ensures, b.near)) in
     omega (arith, small)
 
-pub offset-bounds-marks-number : goal.offset-bounds-marks-number
-offset-bounds-marks-number g c =
+pub offset_bounds-marks-number : goal.offset_bounds-marks-number
+offset_bounds-marks-number g c =
     let b = c.args.block.now in
     let n = number_in (area_of b) c.in-Some.cell.0 c.in-Some.cell.1 c.args.index c.in-Some.ensures in
     let same = ap (λ w. (c.in-Some.cell.0 - b.top) * w) c.width.ensures in
@@ -28,8 +28,8 @@ bounds-marks-number g c =
     let same = ap (λ w. (c.in-Some.cell.0 - b.top) * w) c.width.ensures in
     omega (arith, n.2, same, c.requires.marks)
 
-pub offset-bounds-mouths-first : goal.offset-bounds-mouths-first
-offset-bounds-mouths-first g c =
+pub offset_bounds-mouths-first : goal.offset_bounds-mouths-first
+offset_bounds-mouths-first g c =
     let low : c.args.first + c.args.index < length c.args.mouths.now = omega (arith, c.requires.room) in search rules
 
 pub returns : goal.returns

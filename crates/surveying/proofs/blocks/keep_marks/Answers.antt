@@ -14,7 +14,7 @@ loop-index-preserved g c =
     let a = area_of c.args.block.now in
     let l = c.loop-index in
     let low : l.index < border (height a) (width a) = omega (arith, c.loop-index-test.true, c.mouths-index-end.ensures) in
-    marks_more (kind_of g.M.Order g.M.Mark) a c.args.marks.now c.args.first c.args.mouths.now l.index l.mouths c.keep-mark.new.mouths low (omega (arith, low, c.requires.room, l.auto.mouths)) l.invariant c.keep-mark.ensures
+    marks_more (kind_of g.M.Order g.M.Mark) a c.args.marks.now c.args.first c.args.mouths.now l.index l.mouths c.keep_mark.new.mouths low (omega (arith, low, c.requires.room, l.auto.mouths)) l.invariant c.keep_mark.ensures
 
 pub returns : goal.returns
 returns g c =

@@ -10,28 +10,28 @@ use Rattle.surveying.proofs.Turning.{origin_some, level_some}
 use Rattle.surveying.proofs.Waiting.{lined_past, lined_more}
 use Rattle.surveying.proofs.linking.enter.Goals as goal
 
-pub returns-in-default : goal.returns-in-default
-returns-in-default g c =
+pub returns-in_default : goal.returns-in_default
+returns-in_default g c =
     let κ = kind_of g.M.Order g.M.Mark in
     let O : OrderLaws κ.leb = record { total = g.met.M.Order.total; transitive = g.met.M.Order.transitive; antisymmetric = g.met.M.Order.antisymmetric } in
     let r = c.args in
     let a = area_of r.block.now in
     let inside : r.node < length r.levels.now = omega (arith, c.requires.slices.2, c.requires.slices.0) in
-    let is = sym (get_or_read r.levels.now r.node c.index-levels-node.result inside c.index-levels-node.is None) ∙ c.in-default.is in
+    let is = sym (get_or_read r.levels.now r.node c.index-levels-node.result inside c.index-levels-node.is None) ∙ c.in_default.is in
     record {
       heap = (omega (arith, c.requires.heap.0), c.requires.heap.1, c.requires.heap.2);
       lined = lined_past κ O a r.levels.now r.origins.now r.node (contents r.heap.now) (λ C d N. absurd (level_some κ O a r.levels.now r.origins.now C r.node c.requires.slices.2 is)) c.requires.lined;
     }
 
-pub returns-in-default-known : goal.returns-in-default-known
-returns-in-default-known g c =
+pub returns-in_default-known : goal.returns-in_default-known
+returns-in_default-known g c =
     let κ = kind_of g.M.Order g.M.Mark in
     let O : OrderLaws κ.leb = record { total = g.met.M.Order.total; transitive = g.met.M.Order.transitive; antisymmetric = g.met.M.Order.antisymmetric } in
     let r = c.args in
     let a = area_of r.block.now in
     record {
       heap = (omega (arith, c.requires.heap.0), c.requires.heap.1, c.requires.heap.2);
-      lined = lined_past κ O a r.levels.now r.origins.now r.node (contents r.heap.now) (λ C d N. absurd (origin_some κ O a r.levels.now r.origins.now C r.node c.requires.slices.2 c.in-default-known.is)) c.requires.lined;
+      lined = lined_past κ O a r.levels.now r.origins.now r.node (contents r.heap.now) (λ C d N. absurd (origin_some κ O a r.levels.now r.origins.now C r.node c.requires.slices.2 c.in_default-known.is)) c.requires.lined;
     }
 
 pub returns : goal.returns

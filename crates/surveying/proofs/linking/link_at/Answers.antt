@@ -6,16 +6,16 @@ use Rattle.tiles.specs.Plans.{area_of}
 use Rattle.surveying.proofs.Charting.{linked_part}
 use Rattle.surveying.proofs.linking.link_at.Goals as goal
 
-pub offset-bounds-passes-start : goal.offset-bounds-passes-start
-offset-bounds-passes-start g c =
+pub offset_bounds-passes-start : goal.offset_bounds-passes-start
+offset_bounds-passes-start g c =
     let low : c.args.start ≤ length c.args.passes.now = omega (arith, c.requires.passes) in search (rules, scaled_fits≤)
 
-pub slice-bounds-link-mouths-end : goal.slice-bounds-link-mouths-end
-slice-bounds-link-mouths-end g c =
+pub slice_bounds-link_mouths-end : goal.slice_bounds-link_mouths-end
+slice_bounds-link_mouths-end g c =
     let low : c.args.start + (length c.args.labels.now - 1) ≤ length c.args.passes.now = c.requires.passes in search rules
 
-pub link-mouths-requires : goal.link-mouths-requires
-link-mouths-requires g c =
+pub link_mouths-requires : goal.link_mouths-requires
+link_mouths-requires g c =
     let n = length c.args.labels.now in
     let part = part_length c.args.passes.now c.args.start (n - 1) c.requires.passes in
     record { slices = c.requires.slices; labels = (c.requires.labels.0, c.requires.labels.1); passes = omega (arith, part, c.requires.labels.2, c.requires.labels.0); flooded = c.requires.flooded }
@@ -25,5 +25,5 @@ returns g c = λ C.
     let r = c.args in
     let n = length r.labels.now - 1 in
     let part = part_length r.passes.now r.start n c.requires.passes in
-    let long : length c.link-mouths.new.passes ≡ r.start + n - r.start = omega (arith, part, c.link-mouths.auto.passes) in
-    linked_part (kind_of g.M.Order g.M.Mark) (area_of r.block.now) r.levels.now r.origins.now C r.first r.start (r.start + n - r.start) c.link-mouths.result c.link-mouths.new.labels r.passes.now c.link-mouths.new.passes (omega (arith, c.requires.passes)) long (c.link-mouths.ensures C)
+    let long : length c.link_mouths.new.passes ≡ r.start + n - r.start = omega (arith, part, c.link_mouths.auto.passes) in
+    linked_part (kind_of g.M.Order g.M.Mark) (area_of r.block.now) r.levels.now r.origins.now C r.first r.start (r.start + n - r.start) c.link_mouths.result c.link_mouths.new.labels r.passes.now c.link_mouths.new.passes (omega (arith, c.requires.passes)) long (c.link_mouths.ensures C)

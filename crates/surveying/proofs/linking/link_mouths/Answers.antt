@@ -19,15 +19,15 @@ loop-from-init g c =
     let O : OrderLaws κ.leb = record { total = g.met.M.Order.total; transitive = g.met.M.Order.transitive; antisymmetric = g.met.M.Order.antisymmetric } in
     let r = c.args in
     let a = area_of r.block.now in (
-      c.line-up.ensures.heap,
-      c.line-up.ensures.lined.stands,
+      c.line_up.ensures.heap,
+      c.line_up.ensures.lined.stands,
       λ C.
           let many : tile_mouths C.plan C.tile ≡ border (height a) (width a) = ap (λ b. border (height b) (width b)) C.area in
-          so_begins κ O a r.levels.now r.origins.now C r.first (contents c.line-up.new.heap) c.unjoin.new.labels r.passes.now (subst (λ n. Unjoined n c.unjoin.new.labels) (c.requires.labels.0 ∙ sym many) c.unjoin.ensures) (c.requires.passes ∙ sym many) c.line-up.ensures.lined,
+          so_begins κ O a r.levels.now r.origins.now C r.first (contents c.line_up.new.heap) c.unjoin.new.labels r.passes.now (subst (λ n. Unjoined n c.unjoin.new.labels) (c.requires.labels.0 ∙ sym many) c.unjoin.ensures) (c.requires.passes ∙ sym many) c.line_up.ensures.lined,
     )
 
-pub look-around-count-requires : goal.look-around-count-requires
-look-around-count-requires g c =
+pub look_around-count-requires : goal.look_around-count-requires
+look_around-count-requires g c =
     let κ = kind_of g.M.Order g.M.Mark in
     let O : OrderLaws κ.leb = record { total = g.met.M.Order.total; transitive = g.met.M.Order.transitive; antisymmetric = g.met.M.Order.antisymmetric } in
     let r = c.args in
@@ -57,9 +57,9 @@ loop-from-preserved g c =
     let least = (all_shuffled (λ y. before κ.leb x y ≡ true) q (x ∷ q') out.leaves.0 (out.least l.invariant.0)).1 in (
       out.order l.invariant.0,
       (all_shuffled (Stands κ a r.levels.now r.origins.now) q (x ∷ q') out.leaves.0 l.invariant.1).1,
-      λ C. turn_ends κ O a r.levels.now r.origins.now C r.first x q' c.look-around-count.new.labels c.look-around-count.new.passes c.look-around-count.result
+      λ C. turn_ends κ O a r.levels.now r.origins.now C r.first x q' c.look_around-count.new.labels c.look_around-count.new.passes c.look_around-count.result
           (All-weaker (λ y. before κ.leb x y ≡ true) (λ y. κ.leb x.level y.level ≡ true) (λ y. before_level κ.leb x y) q' least)
-          (c.look-around-count.ensures C q' (turn_begins κ O a r.levels.now r.origins.now C r.first x q q' l.labels l.passes l.count out.leaves.0 (l.invariant.2 C))),
+          (c.look_around-count.ensures C q' (turn_begins κ O a r.levels.now r.origins.now C r.first x q q' l.labels l.passes l.count out.leaves.0 (l.invariant.2 C))),
     )
 
 pub returns : goal.returns
@@ -68,5 +68,5 @@ returns g c =
     let r = c.args in
     let a = area_of r.block.now in
     let l = c.loop-from in
-    let none = nil_from_length (contents l.heap) c.in-default.ensures.leaves.0 in
+    let none = nil_from_length (contents l.heap) c.in_default.ensures.leaves.0 in
     λ C. subst (λ q. Sofar κ a r.levels.now r.origins.now C r.first (Besides κ a r.levels.now r.origins.now q) q l.labels l.passes l.count) none (l.invariant.2 C)

@@ -14,74 +14,74 @@ use Rattle.surveying.specs.Turns.{cells_of}
 use Rattle.surveying.proofs.Charting.{tile_there, tile_is, sides_cut, tile_inside, flooded_tile, chart_done, tables_long, room_short}
 use Rattle.surveying.proofs.survey.chart.Goals as goal
 
-pub returns-in-err-block : goal.returns-in-err-block
-returns-in-err-block g c = absurd (tile_there (plan_of c.args.cuts.now) c.args.tile _ _ _ c.requires.tile c.in-err-block.ensures.told)
+pub returns-in_err-block : goal.returns-in_err-block
+returns-in_err-block g c = absurd (tile_there (plan_of c.args.cuts.now) c.args.tile _ _ _ c.requires.tile c.in_err-block.ensures.told)
 
-pub returns-in-err-first : goal.returns-in-err-first
-returns-in-err-first g c = absurd (tile_there (plan_of c.args.cuts.now) c.args.tile _ _ _ c.requires.tile c.in-err-first.ensures.told)
+pub returns-in_err-first : goal.returns-in_err-first
+returns-in_err-first g c = absurd (tile_there (plan_of c.args.cuts.now) c.args.tile _ _ _ c.requires.tile c.in_err-first.ensures.told)
 
-pub flood-block-requires : goal.flood-block-requires
-flood-block-requires g c =
+pub flood_block-requires : goal.flood_block-requires
+flood_block-requires g c =
     let p = plan_of c.args.cuts.now in
     let t = c.args.tile in
     let m = g.S.Sheet.meaning c.args.source.now in
-    let b = c.in-ok-block.block in
-    let is = tile_is p t (area_of b) (tile_at p t) c.requires.tile c.in-ok-block.ensures.told in
+    let b = c.in_ok-block.block in
+    let is = tile_is p t (area_of b) (tile_at p t) c.requires.tile c.in_ok-block.ensures.told in
     record {
       inside = tile_inside p m t (area_of b) (lawful_plan c.args.cuts.now) (sides_cut p m c.requires.sides) is b.tall b.wide;
       marks = c.requires.marks ∙ sym (ap cells_of is);
       room = ap (λ z. short (cells_of z) c.args.levels.now c.args.origins.now c.args.heap.now) is ∙ c.requires.room;
     }
 
-pub returns-in-err-flood-block : goal.returns-in-err-flood-block
-returns-in-err-flood-block g c =
+pub returns-in_err-flood_block : goal.returns-in_err-flood_block
+returns-in_err-flood_block g c =
     let p = plan_of c.args.cuts.now in
     let t = c.args.tile in
     let m = g.S.Sheet.meaning c.args.source.now in
-    let b = c.in-ok-block.block in
-    let is = tile_is p t (area_of b) (tile_at p t) c.requires.tile c.in-ok-block.ensures.told in
-    let e = err_from_is_err_and c.from-residual-in-err-flood-block.result c.from-residual-in-err-flood-block.ensures.1 in
+    let b = c.in_ok-block.block in
+    let is = tile_is p t (area_of b) (tile_at p t) c.requires.tile c.in_ok-block.ensures.told in
+    let e = err_from_is_err_and c.from-residual-in_err-flood_block.result c.from-residual-in_err-flood_block.ensures.1 in
     rw (e.1, e.2) (record {
-      told = carried (dead_in m (area_of b)) (dead_in m (tile_at p t)) _ _ 7 [] tt (tile_mouths p t - 1) (λ yes'. sym (ap (dead_in m) is) ∙ yes') c.in-err-flood-block.ensures.told;
+      told = carried (dead_in m (area_of b)) (dead_in m (tile_at p t)) _ _ 7 [] tt (tile_mouths p t - 1) (λ yes'. sym (ap (dead_in m) is) ∙ yes') c.in_err-flood_block.ensures.told;
       leaves = refl;
     })
 
-pub keep-marks-requires : goal.keep-marks-requires
-keep-marks-requires g c =
+pub keep_marks-requires : goal.keep_marks-requires
+keep_marks-requires g c =
     let p = plan_of c.args.cuts.now in
     let t = c.args.tile in
-    let b = c.in-ok-block.block in
-    let is = tile_is p t (area_of b) (tile_at p t) c.requires.tile c.in-ok-block.ensures.told in
-    let is-first = tile_is p t c.in-ok-first.first (mouth_base p t) c.requires.tile c.in-ok-first.ensures.told in
-    let long = tables_long p t c.in-ok-first.first (length c.args.mouths.now) (length c.args.passes.now) (lawful_plan c.args.cuts.now) c.requires.tile is-first c.requires.tables in
+    let b = c.in_ok-block.block in
+    let is = tile_is p t (area_of b) (tile_at p t) c.requires.tile c.in_ok-block.ensures.told in
+    let is-first = tile_is p t c.in_ok-first.first (mouth_base p t) c.requires.tile c.in_ok-first.ensures.told in
+    let long = tables_long p t c.in_ok-first.first (length c.args.mouths.now) (length c.args.passes.now) (lawful_plan c.args.cuts.now) c.requires.tile is-first c.requires.tables in
     let many : border (height (area_of b)) (width (area_of b)) ≡ tile_mouths p t = ap (λ z. border (height z) (width z)) is in
-    record { marks = c.flood-block.auto.marks ∙ c.requires.marks ∙ sym (ap cells_of is); room = omega (arith, many, long.mouths) }
+    record { marks = c.flood_block.auto.marks ∙ c.requires.marks ∙ sym (ap cells_of is); room = omega (arith, many, long.mouths) }
 
-pub overflow-sub-first : goal.overflow-sub-first
-overflow-sub-first g c =
+pub overflow_sub-first : goal.overflow_sub-first
+overflow_sub-first g c =
     let p = plan_of c.args.cuts.now in
     let t = c.args.tile in
-    let is-first = tile_is p t c.in-ok-first.first (mouth_base p t) c.requires.tile c.in-ok-first.ensures.told in
-    (tables_long p t c.in-ok-first.first (length c.args.mouths.now) (length c.args.passes.now) (lawful_plan c.args.cuts.now) c.requires.tile is-first c.requires.tables).low
+    let is-first = tile_is p t c.in_ok-first.first (mouth_base p t) c.requires.tile c.in_ok-first.ensures.told in
+    (tables_long p t c.in_ok-first.first (length c.args.mouths.now) (length c.args.passes.now) (lawful_plan c.args.cuts.now) c.requires.tile is-first c.requires.tables).low
 
-pub link-at-count-requires : goal.link-at-count-requires
-link-at-count-requires g c =
+pub link_at-count-requires : goal.link_at-count-requires
+link_at-count-requires g c =
     let κ = kind_of g.Mark.Order g.Mark.Mark in
     let p = plan_of c.args.cuts.now in
     let t = c.args.tile in
     let m = g.S.Sheet.meaning c.args.source.now in
     let law = lawful_plan c.args.cuts.now in
-    let b = c.in-ok-block.block in
-    let is = tile_is p t (area_of b) (tile_at p t) c.requires.tile c.in-ok-block.ensures.told in
-    let is-first = tile_is p t c.in-ok-first.first (mouth_base p t) c.requires.tile c.in-ok-first.ensures.told in
-    let long = tables_long p t c.in-ok-first.first (length c.args.mouths.now) (length c.args.passes.now) law c.requires.tile is-first c.requires.tables in
+    let b = c.in_ok-block.block in
+    let is = tile_is p t (area_of b) (tile_at p t) c.requires.tile c.in_ok-block.ensures.told in
+    let is-first = tile_is p t c.in_ok-first.first (mouth_base p t) c.requires.tile c.in_ok-first.ensures.told in
+    let long = tables_long p t c.in_ok-first.first (length c.args.mouths.now) (length c.args.passes.now) law c.requires.tile is-first c.requires.tables in
     let many : border (height (area_of b)) (width (area_of b)) ≡ tile_mouths p t = ap (λ z. border (height z) (width z)) is in
     let room = room_short (cells_of (area_of b)) c.args.levels.now c.args.origins.now c.args.heap.now (ap (λ z. short (cells_of z) c.args.levels.now c.args.origins.now c.args.heap.now) is ∙ c.requires.room) in
     record {
-      slices = (omega (arith, room.0, c.flood-block.auto.levels), omega (arith, room.1, c.flood-block.auto.origins), omega (arith, room.2, c.flood-block.auto.heap));
+      slices = (omega (arith, room.0, c.flood_block.auto.levels), omega (arith, room.1, c.flood_block.auto.origins), omega (arith, room.2, c.flood_block.auto.heap));
       labels = (c.requires.labels ∙ sym many, omega (arith, c.requires.labels, long.few), omega (arith, c.requires.labels, long.some));
       passes = omega (arith, c.requires.labels, long.passes);
-      flooded = flooded_tile κ m p t (area_of b) c.flood-block.new.marks c.flood-block.new.levels c.flood-block.new.origins law (sides_cut p m c.requires.sides) c.requires.tile is c.in-ok-flood-block.ensures.leaves;
+      flooded = flooded_tile κ m p t (area_of b) c.flood_block.new.marks c.flood_block.new.levels c.flood_block.new.origins law (sides_cut p m c.requires.sides) c.requires.tile is c.in_ok-flood_block.ensures.leaves;
     }
 
 pub returns : goal.returns
@@ -91,13 +91,13 @@ returns g c =
     let p = plan_of c.args.cuts.now in
     let t = c.args.tile in
     let m = g.S.Sheet.meaning c.args.source.now in
-    let b = c.in-ok-block.block in
-    let is = tile_is p t (area_of b) (tile_at p t) c.requires.tile c.in-ok-block.ensures.told in
-    let is-first = tile_is p t c.in-ok-first.first (mouth_base p t) c.requires.tile c.in-ok-first.ensures.told in
-    let long = c.flood-block.auto.marks ∙ c.requires.marks ∙ sym (ap cells_of is) in
-    let done = chart_done κ O m p t (area_of b) c.flood-block.new.marks c.flood-block.new.levels c.flood-block.new.origins (lawful_plan c.args.cuts.now) (sides_cut p m c.requires.sides) c.requires.tile is c.in-ok-flood-block.ensures.leaves
-    c.in-ok-first.first c.link-at-count.result is-first c.args.mouths.now c.keep-marks.new.mouths c.args.passes.now c.link-at-count.new.passes long c.keep-marks.ensures c.link-at-count.ensures in
+    let b = c.in_ok-block.block in
+    let is = tile_is p t (area_of b) (tile_at p t) c.requires.tile c.in_ok-block.ensures.told in
+    let is-first = tile_is p t c.in_ok-first.first (mouth_base p t) c.requires.tile c.in_ok-first.ensures.told in
+    let long = c.flood_block.auto.marks ∙ c.requires.marks ∙ sym (ap cells_of is) in
+    let done = chart_done κ O m p t (area_of b) c.flood_block.new.marks c.flood_block.new.levels c.flood_block.new.origins (lawful_plan c.args.cuts.now) (sides_cut p m c.requires.sides) c.requires.tile is c.in_ok-flood_block.ensures.leaves
+    c.in_ok-first.first c.link_at-count.result is-first c.args.mouths.now c.keep_marks.new.mouths c.args.passes.now c.link_at-count.new.passes long c.keep_marks.ensures c.link_at-count.ensures in
     record {
-      told = passes (dead_in m (tile_at p t)) 7 [] (tile_mouths p t - 1) (accepted c.link-at-count.result) (sym (ap (dead_in m) is) ∙ (passed (dead_in m (area_of b)) 7 [] tt tt c.in-ok-flood-block.ensures.told).0) (ap accepted done.0);
+      told = passes (dead_in m (tile_at p t)) 7 [] (tile_mouths p t - 1) (accepted c.link_at-count.result) (sym (ap (dead_in m) is) ∙ (passed (dead_in m (area_of b)) 7 [] tt tt c.in_ok-flood_block.ensures.told).0) (ap accepted done.0);
       leaves = done.1;
     }

@@ -7,13 +7,13 @@ use Rattle.sheets.proofs.Rectangles.{rows_more, rows_broken}
 use Rattle.terrain.proofs.Rows.{row_end, block_more, part_length, refused_by}
 use Rattle.terrain.proofs.blocks.read_rows.Goals as goal
 
-pub offset-bounds-marks-start : goal.offset-bounds-marks-start
-offset-bounds-marks-start g c =
+pub offset_bounds-marks-start : goal.offset_bounds-marks-start
+offset_bounds-marks-start g c =
     let e : c.loop-i.i * c.args.extent.width ≤ length c.loop-i.marks = omega (arith, row_end c.args.extent.height c.args.extent.width c.loop-i.i c.loop-i-test.true, c.requires.long, c.loop-i.auto.marks) in
     search rules
 
-pub slice-bounds-read-end : goal.slice-bounds-read-end
-slice-bounds-read-end g c =
+pub slice_bounds-read-end : goal.slice_bounds-read-end
+slice_bounds-read-end g c =
     let e : c.loop-i.i * c.args.extent.width + c.args.extent.width ≤ length c.loop-i.marks = omega (arith, row_end c.args.extent.height c.args.extent.width c.loop-i.i c.loop-i-test.true, c.requires.long, c.loop-i.auto.marks) in
     search rules
 
@@ -24,15 +24,15 @@ loop-i-preserved g c =
     let i = c.loop-i.i in
     let inside : i * w + w ≤ length c.loop-i.marks = omega (arith, row_end c.args.extent.height w i c.loop-i-test.true, c.requires.long, c.loop-i.auto.marks) in
     let long = part_length c.loop-i.marks (i * w) w inside in
-    let told = c.in-ok-read.ensures.told in
-    let leaves = c.in-ok-read.ensures.leaves in
+    let told = c.in_ok-read.ensures.told in
+    let leaves = c.in_ok-read.ensures.leaves in
     let whole = (passed _ _ [] _ _ (passed _ _ (_ ∷ []) _ _ told).1).0 in (
       rows_more m c.args.from w i c.loop-i.invariant.0 (ap (broken m (c.args.from.row + i) c.args.from.col) (sym long) ∙ whole),
       block_more m c.args.from w _ i c.loop-i.marks c.read.new.out c.loop-i.invariant.1 inside (leaves.0 ∙ long) leaves.1,
     )
 
-pub returns-in-err-read : goal.returns-in-err-read
-returns-in-err-read g c =
+pub returns-in_err-read : goal.returns-in_err-read
+returns-in_err-read g c =
     let m = g.S.Sheet.meaning c.args.source.now in
     let w = c.args.extent.width in
     let i = c.loop-i.i in
@@ -42,7 +42,7 @@ returns-in-err-read g c =
     let long = part_length c.loop-i.marks (i * w) w within in
     let p = err_from_is_err_and c.from-residual.result c.from-residual.ensures.1 in
     let inside : outside m row col (length (mid_of (i * w) (i * w + w - i * w) c.loop-i.marks)) ≡ false = fits_run m.rows m.cols row col _ (omega arith) (omega (arith, long)) in
-    let told = past _ _ (_ ∷ []) _ _ inside c.in-err-read.ensures.told in
+    let told = past _ _ (_ ∷ []) _ _ inside c.in_err-read.ensures.told in
     rw (p.1, p.2) (record {
       told = carried _ _ _ _ _ [] _ _ (λ b. rows_broken m c.args.from w c.args.extent.height i c.loop-i-test.true (ap (broken m row col) (sym long) ∙ b)) told;
       leaves = λ other. absurd (other (refused_by _ _ _ _ _ told));

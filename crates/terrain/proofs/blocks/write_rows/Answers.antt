@@ -5,13 +5,13 @@ use Rattle.sheets.proofs.Rectangles.{copied_more}
 use Rattle.terrain.specs.Cells.{place}
 use Rattle.terrain.proofs.blocks.write_rows.Goals as goal
 
-pub offset-bounds-marks-start : goal.offset-bounds-marks-start
-offset-bounds-marks-start g c =
+pub offset_bounds-marks-start : goal.offset_bounds-marks-start
+offset_bounds-marks-start g c =
     let e : c.loop-i.i * c.args.extent.width ≤ length c.args.marks.now = omega (arith, row_end c.args.extent.height c.args.extent.width c.loop-i.i c.loop-i-test.true, c.requires.long) in
     search rules
 
-pub slice-bounds-write-end : goal.slice-bounds-write-end
-slice-bounds-write-end g c =
+pub slice_bounds-write-end : goal.slice_bounds-write-end
+slice_bounds-write-end g c =
     let e : c.loop-i.i * c.args.extent.width + c.args.extent.width ≤ length c.args.marks.now = omega (arith, row_end c.args.extent.height c.args.extent.width c.loop-i.i c.loop-i-test.true, c.requires.long) in
     search rules
 
@@ -24,7 +24,7 @@ loop-i-preserved g c =
     let inside : i * w + w ≤ length ms = omega (arith, row_end h w i c.loop-i-test.true, c.requires.long) in
     let long = part_length ms (i * w) w inside in
     let short : i * w + w - i * w ≡ w = omega arith in
-    let done = c.in-ok-write.ensures in (
+    let done = c.in_ok-write.ensures in (
       copied_more (flat h w ms) (place 0 0) _ _ _ c.args.to i w _ c.loop-i.invariant.0 long (omega arith) (omega arith) (λ k hk. row_holds h w i ms _ c.loop-i-test.true c.requires.long (ap (λ n. take n (drop (i * w) ms)) short) k (omega (arith, long))) done.leaves,
       done.loans ∙ c.loop-i.invariant.1,
     )

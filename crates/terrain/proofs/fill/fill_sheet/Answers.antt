@@ -18,15 +18,15 @@ returns-then-differ g c =
       surface = sills_fill κ O m;
     }
 
-pub returns-then-is-short : goal.returns-then-is-short
-returns-then-is-short g c =
+pub returns-then-is_short : goal.returns-then-is_short
+returns-then-is_short g c =
     let κ = kind_of g.S.Mark.Order g.row.S-Mark-Mark in
     let O : OrderLaws κ.leb = record { total = g.met.S.Mark.Order.total; transitive = g.met.S.Mark.Order.transitive; antisymmetric = g.met.S.Mark.Order.antisymmetric } in
     let m = g.S.Sheet.meaning c.args.source.now in
     let h = g.T.Sheet.meaning c.args.target.now in
     record {
       loans = (refl, record { marks = refl; levels = refl; origins = refl; heap = refl });
-      told = fill_short κ m h h c.args.scratch.now (c.sides-rows.result.0 * c.sides-rows.result.1) c.if-differ.ensures (λ i. c.sides-rows.ensures.rows i * c.sides-rows.ensures.cols i) c.if-is-short.ensures;
+      told = fill_short κ m h h c.args.scratch.now (c.sides-rows.result.0 * c.sides-rows.result.1) c.if-differ.ensures (λ i. c.sides-rows.ensures.rows i * c.sides-rows.ensures.cols i) c.if-is_short.ensures;
       leaves = refl;
       scratch = λ other. refl;
       surface = sills_fill κ O m;
@@ -41,7 +41,7 @@ returns g c =
     let h' = g.T.Sheet.meaning c.fill.new.target in
     record {
       loans = (c.fill.ensures.loans, record { marks = refl; levels = refl; origins = refl; heap = refl });
-      told = fill_goes κ m h h' c.args.scratch.now (c.sides-rows.result.0 * c.sides-rows.result.1) _ c.if-differ.ensures (λ i. c.sides-rows.ensures.rows i * c.sides-rows.ensures.cols i) c.if-is-short.ensures c.fill.ensures.told;
+      told = fill_goes κ m h h' c.args.scratch.now (c.sides-rows.result.0 * c.sides-rows.result.1) _ c.if-differ.ensures (λ i. c.sides-rows.ensures.rows i * c.sides-rows.ensures.cols i) c.if-is_short.ensures c.fill.ensures.told;
       leaves = c.fill.ensures.leaves;
       scratch = scratch_left _ _ _ _ c.fill.result c.fill.ensures.told;
       surface = sills_fill κ O m;

@@ -12,12 +12,12 @@ laws g = let m = g.met.M.CodedMark in record { one = g.M.Mark.lowest; distinct =
 pub loop-left-init : goal.loop-left-init
 loop-left-init g c = (c.requires.from, going_none (body g.M.Spelled.spelled c.args.rows c.args.cols) c.args.from c.args.bytes.now c.requires.from)
 
-pub returns-in-err-at : goal.returns-in-err-at
-returns-in-err-at g c = let p = err_from_is_err_and c.from-residual.result c.from-residual.ensures.1 in rw (p.1, p.2) (body_lost _ (laws g) _ _ _ _ _ _ c.loop-left.invariant.1 (omega arith) _ c.in-err-at.ensures)
+pub returns-in_err-at : goal.returns-in_err-at
+returns-in_err-at g c = let p = err_from_is_err_and c.from-residual.result c.from-residual.ensures.1 in rw (p.1, p.2) (body_lost _ (laws g) _ _ _ _ _ _ c.loop-left.invariant.1 (omega arith) _ c.in_err-at.ensures)
 
 pub loop-left-preserved : goal.loop-left-preserved
 loop-left-preserved g c =
-    let k = c.in-ok-at.ensures in
+    let k = c.in_ok-at.ensures in
     let s = body_more _ (laws g) c.args.rows c.args.cols c.args.from c.args.bytes.now _ _ c.loop-left.invariant.1 (omega arith) k.0 _ k.1 in
     (s.within, s)
 

@@ -3,55 +3,55 @@ use Rattle.std.proofs.lemmas.Result.{err_from_is_err_and}
 use Rattle.texts.proofs.Heads.{lost0, lost1, lost2, lost3, lost4, going3, going4, found4, found_word, lost_word}
 use Rattle.texts.proofs.reading.first_line.Goals as goal
 
-pub returns-in-err-word : goal.returns-in-err-word
-returns-in-err-word g c = let p = err_from_is_err_and c.from-residual.result c.from-residual.ensures.1 in rw (p.1, p.2) (lost0 _ _ _ c.in-err-word.ensures)
+pub returns-in_err-word : goal.returns-in_err-word
+returns-in_err-word g c = let p = err_from_is_err_and c.from-residual.result c.from-residual.ensures.1 in rw (p.1, p.2) (lost0 _ _ _ c.in_err-word.ensures)
 
-pub returns-in-err-gap : goal.returns-in-err-gap
-returns-in-err-gap g c =
-    let p = err_from_is_err_and c.from-residual-in-err-gap.result c.from-residual-in-err-gap.ensures.1 in
-    let h0 = c.in-ok-word.ensures in
-    rw (p.1, p.2) (lost1 _ _ _ _ h0.1 _ (lost_word _ _ _ _ _ c.name.ensures c.in-err-gap.ensures))
+pub returns-in_err-gap : goal.returns-in_err-gap
+returns-in_err-gap g c =
+    let p = err_from_is_err_and c.from-residual-in_err-gap.result c.from-residual-in_err-gap.ensures.1 in
+    let h0 = c.in_ok-word.ensures in
+    rw (p.1, p.2) (lost1 _ _ _ _ h0.1 _ (lost_word _ _ _ _ _ c.name.ensures c.in_err-gap.ensures))
 
-pub returns-in-err-first : goal.returns-in-err-first
-returns-in-err-first g c =
-    let p = err_from_is_err_and c.from-residual-in-err-first.result c.from-residual-in-err-first.ensures.1 in
-    let h0 = c.in-ok-word.ensures in
-    let h1 = c.in-ok-gap.ensures in
-    rw (p.1, p.2) (lost2 _ _ _ _ h0.1 _ _ (found_word _ _ _ _ _ _ c.name.ensures h1.1) _ c.in-err-first.ensures)
+pub returns-in_err-first : goal.returns-in_err-first
+returns-in_err-first g c =
+    let p = err_from_is_err_and c.from-residual-in_err-first.result c.from-residual-in_err-first.ensures.1 in
+    let h0 = c.in_ok-word.ensures in
+    let h1 = c.in_ok-gap.ensures in
+    rw (p.1, p.2) (lost2 _ _ _ _ h0.1 _ _ (found_word _ _ _ _ _ _ c.name.ensures h1.1) _ c.in_err-first.ensures)
 
 pub side-requires : goal.side-requires
 side-requires g c =
-    let h0 = c.in-ok-word.ensures in
-    let h1 = c.in-ok-gap.ensures in
-    let h2 = c.in-ok-first.ensures in
+    let h0 = c.in_ok-word.ensures in
+    let h1 = c.in_ok-gap.ensures in
+    let h2 = c.in_ok-first.ensures in
     record { at = (going3 g.M.Spelled.named c.args.bytes.now _ _ h0.1 _ _ (found_word _ _ _ _ _ _ c.name.ensures h1.1) _ _ h2.1).within; end = inl (inl refl) }
 
-pub returns-in-err-rows : goal.returns-in-err-rows
-returns-in-err-rows g c =
-    let p = err_from_is_err_and c.from-residual-in-err-rows.result c.from-residual-in-err-rows.ensures.1 in
-    let h0 = c.in-ok-word.ensures in
-    let h1 = c.in-ok-gap.ensures in
-    let h2 = c.in-ok-first.ensures in
-    rw (p.1, p.2) (lost3 _ _ _ _ h0.1 _ _ (found_word _ _ _ _ _ _ c.name.ensures h1.1) _ _ h2.1 _ c.in-err-rows.ensures)
+pub returns-in_err-rows : goal.returns-in_err-rows
+returns-in_err-rows g c =
+    let p = err_from_is_err_and c.from-residual-in_err-rows.result c.from-residual-in_err-rows.ensures.1 in
+    let h0 = c.in_ok-word.ensures in
+    let h1 = c.in_ok-gap.ensures in
+    let h2 = c.in_ok-first.ensures in
+    rw (p.1, p.2) (lost3 _ _ _ _ h0.1 _ _ (found_word _ _ _ _ _ _ c.name.ensures h1.1) _ _ h2.1 _ c.in_err-rows.ensures)
 
 pub side-requires-2 : goal.side-requires-2
 side-requires-2 g c =
-    let h0 = c.in-ok-word.ensures in
-    let h1 = c.in-ok-gap.ensures in
-    let h2 = c.in-ok-first.ensures in
-    record { at = (going4 g.M.Spelled.named c.args.bytes.now _ _ h0.1 _ _ (found_word _ _ _ _ _ _ c.name.ensures h1.1) _ _ h2.1 _ _ c.in-ok-rows.ensures).within; end = inl (inr refl) }
+    let h0 = c.in_ok-word.ensures in
+    let h1 = c.in_ok-gap.ensures in
+    let h2 = c.in_ok-first.ensures in
+    record { at = (going4 g.M.Spelled.named c.args.bytes.now _ _ h0.1 _ _ (found_word _ _ _ _ _ _ c.name.ensures h1.1) _ _ h2.1 _ _ c.in_ok-rows.ensures).within; end = inl (inr refl) }
 
-pub returns-in-err-cols : goal.returns-in-err-cols
-returns-in-err-cols g c =
-    let p = err_from_is_err_and c.from-residual-in-err-cols.result c.from-residual-in-err-cols.ensures.1 in
-    let h0 = c.in-ok-word.ensures in
-    let h1 = c.in-ok-gap.ensures in
-    let h2 = c.in-ok-first.ensures in
-    rw (p.1, p.2) (lost4 _ _ _ _ h0.1 _ _ (found_word _ _ _ _ _ _ c.name.ensures h1.1) _ _ h2.1 _ _ c.in-ok-rows.ensures _ c.in-err-cols.ensures)
+pub returns-in_err-cols : goal.returns-in_err-cols
+returns-in_err-cols g c =
+    let p = err_from_is_err_and c.from-residual-in_err-cols.result c.from-residual-in_err-cols.ensures.1 in
+    let h0 = c.in_ok-word.ensures in
+    let h1 = c.in_ok-gap.ensures in
+    let h2 = c.in_ok-first.ensures in
+    rw (p.1, p.2) (lost4 _ _ _ _ h0.1 _ _ (found_word _ _ _ _ _ _ c.name.ensures h1.1) _ _ h2.1 _ _ c.in_ok-rows.ensures _ c.in_err-cols.ensures)
 
 pub returns : goal.returns
 returns g c =
-    let h0 = c.in-ok-word.ensures in
-    let h1 = c.in-ok-gap.ensures in
-    let h2 = c.in-ok-first.ensures in
-    found4 _ _ _ _ h0.1 _ _ (found_word _ _ _ _ _ _ c.name.ensures h1.1) _ _ h2.1 _ _ c.in-ok-rows.ensures _ _ c.in-ok-cols.ensures
+    let h0 = c.in_ok-word.ensures in
+    let h1 = c.in_ok-gap.ensures in
+    let h2 = c.in_ok-first.ensures in
+    found4 _ _ _ _ h0.1 _ _ (found_word _ _ _ _ _ _ c.name.ensures h1.1) _ _ h2.1 _ _ c.in_ok-rows.ensures _ _ c.in_ok-cols.ensures

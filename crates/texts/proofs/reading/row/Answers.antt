@@ -7,28 +7,28 @@ use Rattle.texts.proofs.reading.row.Goals as goal
 laws : (g : given.Over) → Spelling g.M.Spelled.spelled
 laws g = let m = g.met.M.CodedMark in record { one = g.M.Mark.lowest; distinct = m.distinct; clear = m.clear }
 
-pub returns-in-err-at : goal.returns-in-err-at
-returns-in-err-at g c = let p = err_from_is_err_and c.from-residual.result c.from-residual.ensures.1 in rw (p.1, p.2) (row_none _ (laws g) _ _ _ c.requires.from _ c.in-err-at.ensures)
+pub returns-in_err-at : goal.returns-in_err-at
+returns-in_err-at g c = let p = err_from_is_err_and c.from-residual.result c.from-residual.ensures.1 in rw (p.1, p.2) (row_none _ (laws g) _ _ _ c.requires.from _ c.in_err-at.ensures)
 
 pub loop-left-init : goal.loop-left-init
 loop-left-init g c =
-    let k = c.in-ok-at.ensures in
+    let k = c.in_ok-at.ensures in
     let s = row_begun _ (laws g) c.args.cols c.args.from c.args.bytes.now c.requires.from k.0 _ k.1 in
     (c.requires.cols, s.within, s)
 
-pub returns-in-err-at-2 : goal.returns-in-err-at-2
-returns-in-err-at-2 g c = let p = err_from_is_err_and c.from-residual-in-err-at-2.result c.from-residual-in-err-at-2.ensures.1 in rw (p.1, p.2) (row_lost _ (laws g) _ _ _ _ _ c.loop-left.invariant.2 c.loop-left-test.true _ c.in-err-at-2.ensures)
+pub returns-in_err-at-2 : goal.returns-in_err-at-2
+returns-in_err-at-2 g c = let p = err_from_is_err_and c.from-residual-in_err-at-2.result c.from-residual-in_err-at-2.ensures.1 in rw (p.1, p.2) (row_lost _ (laws g) _ _ _ _ _ c.loop-left.invariant.2 c.loop-left-test.true _ c.in_err-at-2.ensures)
 
 pub loop-left-preserved : goal.loop-left-preserved
 loop-left-preserved g c =
-    let k = c.in-ok-at-2.ensures in
+    let k = c.in_ok-at-2.ensures in
     let s = row_more _ (laws g) c.args.cols c.args.from c.args.bytes.now _ _ c.loop-left.invariant.2 c.loop-left-test.true k.0 _ k.1 in
     (omega arith, s.within, s)
 
-pub returns-in-err-last : goal.returns-in-err-last
-returns-in-err-last g c = let p = err_from_is_err_and c.from-residual-in-err-last.result c.from-residual-in-err-last.ensures.1 in rw (p.1, p.2) (last_lost _ (laws g) _ _ _ _ _ c.loop-left.invariant.2 c.loop-left-test.false _ c.in-err-last.ensures)
+pub returns-in_err-last : goal.returns-in_err-last
+returns-in_err-last g c = let p = err_from_is_err_and c.from-residual-in_err-last.result c.from-residual-in_err-last.ensures.1 in rw (p.1, p.2) (last_lost _ (laws g) _ _ _ _ _ c.loop-left.invariant.2 c.loop-left-test.false _ c.in_err-last.ensures)
 
 pub returns : goal.returns
 returns g c =
-    let k = c.in-ok-last.ensures in
+    let k = c.in_ok-last.ensures in
     row_end _ (laws g) _ _ _ _ (last_found _ (laws g) c.args.cols c.args.from c.args.bytes.now _ _ c.loop-left.invariant.2 c.loop-left-test.false k.0 _ k.1) _ c.literal-2.ensures

@@ -7,8 +7,8 @@ use Rattle.texts.proofs.tokens.part_at.Goals as goal
 pub returns-then-at-bytes : goal.returns-then-at-bytes
 returns-then-at-bytes c = sym (ap part_of (drop_all c.args.at c.args.bytes.now c.if-at-bytes.true))
 
-pub returns-then-is-spacing : goal.returns-then-is-spacing
-returns-then-is-spacing c = sym (part_space _ _ c.if-at-bytes.false (sym c.is-spacing.ensures ∙ c.if-is-spacing.true))
+pub returns-then-is_spacing : goal.returns-then-is_spacing
+returns-then-is_spacing c = sym (part_space _ _ c.if-at-bytes.false (sym c.is_spacing.ensures ∙ c.if-is_spacing.true))
 
 pub returns-then-first-eq40 : goal.returns-then-first-eq40
 returns-then-first-eq40 c = sym (part_open _ _ c.if-at-bytes.false c.if-first-eq40.true)
@@ -16,8 +16,8 @@ returns-then-first-eq40 c = sym (part_open _ _ c.if-at-bytes.false c.if-first-eq
 pub returns-then-first-eq41 : goal.returns-then-first-eq41
 returns-then-first-eq41 c = sym (part_close _ _ c.if-at-bytes.false c.if-first-eq41.true)
 
-pub returns-then-is-numeric : goal.returns-then-is-numeric
-returns-then-is-numeric c = ap (λ w. Some (number w)) c.end-of.ensures.value ∙ sym (part_number _ _ c.if-at-bytes.false (sym c.is-spacing.ensures ∙ c.if-is-spacing.false) c.if-first-eq40.false c.if-first-eq41.false (sym c.is-numeric.ensures ∙ c.if-is-numeric.true))
+pub returns-then-is_numeric : goal.returns-then-is_numeric
+returns-then-is_numeric c = ap (λ w. Some (number w)) c.end_of.ensures.value ∙ sym (part_number _ _ c.if-at-bytes.false (sym c.is_spacing.ensures ∙ c.if-is_spacing.false) c.if-first-eq40.false c.if-first-eq41.false (sym c.is_numeric.ensures ∙ c.if-is_numeric.true))
 
 pub returns : goal.returns
-returns c = ap (λ w. Some (word w)) c.end-of.ensures.value ∙ sym (part_word _ _ c.if-at-bytes.false (sym c.is-spacing.ensures ∙ c.if-is-spacing.false) c.if-first-eq40.false c.if-first-eq41.false (sym c.is-numeric.ensures ∙ c.if-is-numeric.false))
+returns c = ap (λ w. Some (word w)) c.end_of.ensures.value ∙ sym (part_word _ _ c.if-at-bytes.false (sym c.is_spacing.ensures ∙ c.if-is_spacing.false) c.if-first-eq40.false c.if-first-eq41.false (sym c.is_numeric.ensures ∙ c.if-is_numeric.false))

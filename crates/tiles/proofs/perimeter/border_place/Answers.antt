@@ -18,11 +18,11 @@ returns-then-w-eq1 c =
     let all : border h w ≡ h = ap (border h) c.if-w-eq1.true ∙ border_column h in
     record { inside = (omega arith, omega arith); value = index_is h w k 0 k (border_left h w k 0 refl) (in_column h w k 0 c.if-w-eq1.true (omega arith)) }
 
-pub overflow-sub-h : goal.overflow-sub-h
-overflow-sub-h c = two_rows c.args.h c.args.w c.args.index (omega arith) (omega arith) (omega arith)
+pub overflow_sub-h : goal.overflow_sub-h
+overflow_sub-h c = two_rows c.args.h c.args.w c.args.index (omega arith) (omega arith) (omega arith)
 
-pub overflow-sub-result-then-past-h : goal.overflow-sub-result-then-past-h
-overflow-sub-result-then-past-h c = two_rows c.args.h c.args.w c.args.index (omega arith) (omega arith) (omega arith)
+pub overflow_sub-result-then-past-h : goal.overflow_sub-result-then-past-h
+overflow_sub-result-then-past-h c = two_rows c.args.h c.args.w c.args.index (omega arith) (omega arith) (omega arith)
 
 pub returns-then-past-h : goal.returns-then-past-h
 returns-then-past-h c =

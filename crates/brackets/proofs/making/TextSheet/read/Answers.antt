@@ -23,29 +23,29 @@ begins rows cols row col n bs starts b e left s =
 pub index-requires : goal.index-requires
 index-requires g c =
     let s = c.args.self.now in
-    omega (arith, s.starts.ok.0, (begins s.rows s.cols c.args.row c.args.col _ s.bytes.now (vec_items s.starts) _ c.leaves-sides.ensures c.if-leaves-sides.false s.begin).0)
+    omega (arith, s.starts.ok.0, (begins s.rows s.cols c.args.row c.args.col _ s.bytes.now (vec_items s.starts) _ c.leaves_sides.ensures c.if-leaves_sides.false s.begin).0)
 
-pub skip-parts-first-requires : goal.skip-parts-first-requires
-skip-parts-first-requires g c =
+pub skip_parts-first-requires : goal.skip_parts-first-requires
+skip_parts-first-requires g c =
     let s = c.args.self.now in
-    ((begins s.rows s.cols c.args.row c.args.col _ s.bytes.now (vec_items s.starts) _ c.leaves-sides.ensures c.if-leaves-sides.false s.begin).1 c.index.result.now c.index.ensures).0
+    ((begins s.rows s.cols c.args.row c.args.col _ s.bytes.now (vec_items s.starts) _ c.leaves_sides.ensures c.if-leaves_sides.false s.begin).1 c.index.result.now c.index.ensures).0
 
 pub returns-then-not-readable : goal.returns-then-not-readable
 returns-then-not-readable g c =
     let s = c.args.self.now in
-    let line = ((begins s.rows s.cols c.args.row c.args.col _ s.bytes.now (vec_items s.starts) _ c.leaves-sides.ensures c.if-leaves-sides.false s.begin).1 c.index.result.now c.index.ensures).1 in
+    let line = ((begins s.rows s.cols c.args.row c.args.col _ s.bytes.now (vec_items s.starts) _ c.leaves_sides.ensures c.if-leaves_sides.false s.begin).1 c.index.result.now c.index.ensures).1 in
     let d = when_false _ _ c.if-not-readable.true c.readable.ensures in
     record {
-      told = passes _ _ (_ ∷ []) _ _ (sym c.leaves-sides.ensures ∙ c.if-leaves-sides.false) (fails _ _ [] _ (run_dead g.M.CodedMark.decoded g.M.Spelled.spelled s.rows s.cols s.bytes.now c.args.row c.args.col c.skip-parts-first.result c.skip-parts-from.result c.index.result.now line c.skip-parts-first.ensures.value c.skip-parts-from.ensures.value (length c.args.out.now) d.0 d.1 d.2));
+      told = passes _ _ (_ ∷ []) _ _ (sym c.leaves_sides.ensures ∙ c.if-leaves_sides.false) (fails _ _ [] _ (run_dead g.M.CodedMark.decoded g.M.Spelled.spelled s.rows s.cols s.bytes.now c.args.row c.args.col c.skip_parts-first.result c.skip_parts-from.result c.index.result.now line c.skip_parts-first.ensures.value c.skip_parts-from.ensures.value (length c.args.out.now) d.0 d.1 d.2));
       leaves = refl;
     }
 
 pub returns : goal.returns
 returns g c =
     let s = c.args.self.now in
-    let line = ((begins s.rows s.cols c.args.row c.args.col _ s.bytes.now (vec_items s.starts) _ c.leaves-sides.ensures c.if-leaves-sides.false s.begin).1 c.index.result.now c.index.ensures).1 in
+    let line = ((begins s.rows s.cols c.args.row c.args.col _ s.bytes.now (vec_items s.starts) _ c.leaves_sides.ensures c.if-leaves_sides.false s.begin).1 c.index.result.now c.index.ensures).1 in
     let live = when_true _ _ c.if-not-readable.false c.readable.ensures in
     record {
-      told = passes _ _ (_ ∷ []) _ _ (sym c.leaves-sides.ensures ∙ c.if-leaves-sides.false) (passes _ _ [] _ _ (run_alive g.M.CodedMark.decoded g.M.Spelled.spelled s.rows s.cols s.bytes.now c.args.row c.args.col c.skip-parts-first.result c.skip-parts-from.result c.index.result.now line c.skip-parts-first.ensures.value c.skip-parts-from.ensures.value (length c.args.out.now) live) refl);
-      leaves = (c.fill.auto.out, run_held g.M.CodedMark.decoded g.M.Spelled.spelled s.rows s.cols s.bytes.now c.args.row c.args.col c.skip-parts-first.result c.skip-parts-from.result c.index.result.now line c.skip-parts-first.ensures.value c.skip-parts-from.ensures.value c.fill.new.out (λ k lt. c.fill.ensures k (omega (arith, c.fill.auto.out))));
+      told = passes _ _ (_ ∷ []) _ _ (sym c.leaves_sides.ensures ∙ c.if-leaves_sides.false) (passes _ _ [] _ _ (run_alive g.M.CodedMark.decoded g.M.Spelled.spelled s.rows s.cols s.bytes.now c.args.row c.args.col c.skip_parts-first.result c.skip_parts-from.result c.index.result.now line c.skip_parts-first.ensures.value c.skip_parts-from.ensures.value (length c.args.out.now) live) refl);
+      leaves = (c.fill.auto.out, run_held g.M.CodedMark.decoded g.M.Spelled.spelled s.rows s.cols s.bytes.now c.args.row c.args.col c.skip_parts-first.result c.skip_parts-from.result c.index.result.now line c.skip_parts-first.ensures.value c.skip_parts-from.ensures.value c.fill.new.out (λ k lt. c.fill.ensures k (omega (arith, c.fill.auto.out))));
     }

@@ -16,15 +16,15 @@ returns-then-len-place g c =
       loans = refl;
     }
 
-pub returns-then-not-at-most : goal.returns-then-not-at-most
-returns-then-not-at-most g c =
+pub returns-then-not-at_most : goal.returns-then-not-at_most
+returns-then-not-at_most g c =
     let le = g.E.Order.leb in
     let h = c.args.self.now in
     let x = c.args.x in
     let read = c.index-self-place.result in
     let old = get_or h.slots.now c.args.place read in
     let some = nth_front h.len c.args.place h.slots.now read (omega arith) c.index-self-place.is ∙ ap Some c.index-self-place.is in
-    let strict : le x old ≡ false = sym c.if-not-at-most.ensures in
+    let strict : le x old ≡ false = sym c.if-not-at_most.ensures in
     record {
       told = sym (ap (λ o. checked ((above le x o, 26) ∷ []) tt) some ∙ ap (λ b. checked ((not b, 26) ∷ []) tt) strict);
       leaves = refl;
@@ -48,7 +48,7 @@ returns g c =
     let n = min h.len (length xs) in
     let inside : i < n = omega arith in
     let some = nth_front h.len i xs read inside c.index-self-place.is ∙ ap Some c.index-self-place.is in
-    let lower : le x old ≡ true = sym c.if-not-at-most.ensures in
+    let lower : le x old ≡ true = sym c.if-not-at_most.ensures in
     let t : (d : g.row.E.Denot) → le x (get_or xs i d) ≡ true = λ d. ap (le x) (get_or_default xs i d read (omega arith)) ∙ lower in
     let before : take h.len xs ≡ take n xs = take_min h.len xs in
     let after : take h.len ys ≡ take n ys = take_min h.len ys ∙ ap (λ m. take (min h.len m) ys) (did.len ∙ long) in

@@ -11,14 +11,14 @@ use Rattle.flood.proofs.queue.Queue.lower.Goals as goal
 
 pub slice-copy-out·known : goal.slice-copy-out·known
 slice-copy-out·known g c =
-    let long = c.keep-places.ensures.kept.long in
+    let long = c.keep_places.ensures.kept.long in
     omega (arith, node_low c.args.origins.now (contents c.args.self.now.heap) c.args.x.node c.requires.ready.single c.requires.waits)
 
-pub offset-bounds-origins-x : goal.offset-bounds-origins-x
-offset-bounds-origins-x g c =
-    let long = c.keep-places.ensures.kept.long in
+pub offset_bounds-origins-x : goal.offset_bounds-origins-x
+offset_bounds-origins-x g c =
+    let long = c.keep_places.ensures.kept.long in
     let h = node_low c.args.origins.now (contents c.args.self.now.heap) c.args.x.node c.requires.ready.single c.requires.waits in
-    let low : c.args.x.node < length c.keep-places.new.origins = omega arith in
+    let low : c.args.x.node < length c.keep_places.new.origins = omega arith in
     search rules
 
 pub follow-requires : goal.follow-requires
@@ -26,10 +26,10 @@ follow-requires g c =
     let le = g.M.Order.leb in
     let x = c.args.x in
     let h₀ = c.args.self.now.heap in
-    let h = c.keep-places.new.self.heap in
+    let h = c.keep_places.new.self.heap in
     let h' = c.lower.new.self in
-    let os = c.keep-places.new.origins in
-    let keep = c.keep-places.ensures in
+    let os = c.keep_places.new.origins in
+    let keep = c.keep_places.ensures in
     let place = c.in-Some.place in
     let found = times_found x.node (contents h₀) (omega (arith, c.requires.waits)) in
     let y = found.1 in
@@ -49,10 +49,10 @@ returns-in-Some g c =
     let le = g.M.Order.leb in
     let x = c.args.x in
     let h₀ = c.args.self.now.heap in
-    let h = c.keep-places.new.self.heap in
+    let h = c.keep_places.new.self.heap in
     let h' = c.lower.new.self in
-    let os = c.keep-places.new.origins in
-    let keep = c.keep-places.ensures in
+    let os = c.keep_places.new.origins in
+    let keep = c.keep_places.ensures in
     let place = c.in-Some.place in
     let found = times_found x.node (contents h₀) (omega (arith, c.requires.waits)) in
     let y = found.1 in
@@ -73,11 +73,11 @@ returns-in-Some g c =
       kept = kept_both (kept_times (contents h') same keep.kept) c.follow.ensures.kept;
     }
 
-pub returns-in-default : goal.returns-in-default
-returns-in-default g c =
+pub returns-in_default : goal.returns-in_default
+returns-in_default g c =
     let x = c.args.x in
     let q = contents c.args.self.now.heap in
-    let os = c.keep-places.new.origins in
+    let os = c.keep_places.new.origins in
     let found = times_found x.node q (omega (arith, c.requires.waits)) in
-    let placed = subst (λ n. get_or os n None ≡ Some found.0) found.3 (c.keep-places.ensures.placed.0 found.0 found.1 found.2) in
-    absurd (none_some (get_or os x.node None) found.0 c.in-default.is placed)
+    let placed = subst (λ n. get_or os n None ≡ Some found.0) found.3 (c.keep_places.ensures.placed.0 found.0 found.1 found.2) in
+    absurd (none_some (get_or os x.node None) found.0 c.in_default.is placed)

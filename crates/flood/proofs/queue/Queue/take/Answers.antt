@@ -7,8 +7,8 @@ use Rattle.flood.proofs.Accepted.{before_level}
 use Rattle.flood.proofs.Places.{half_placed, half_apart, single_left, single_long}
 use Rattle.flood.proofs.queue.Queue.take.Goals as goal
 
-pub offset-bounds-origins-x : goal.offset-bounds-origins-x
-offset-bounds-origins-x g c =
+pub offset_bounds-origins-x : goal.offset_bounds-origins-x
+offset_bounds-origins-x g c =
     let low : c.in-Some.x.node < length c.args.origins.now = (single_left c.in-Some.x (contents c.take.new.self) c.requires.ready.single c.in-Some.ensures.leaves.0).2 in search rules
 
 pub bounds-origins-x : goal.bounds-origins-x

@@ -14,5 +14,5 @@ returns c = record {
   room = ending_room _ _ _ _ c.loop-rest.invariant;
 }
 
-pub overflow-sub-start : goal.overflow-sub-start
-overflow-sub-start c = ending_room _ _ _ _ c.loop-rest.invariant
+pub overflow_sub-start : goal.overflow_sub-start
+overflow_sub-start c = ending_room _ _ _ _ c.loop-rest.invariant

@@ -51,35 +51,35 @@ module _ {M : Type 0} (r : Round) (g : Grid M) (t m q : ℕ) (s : SurveyScratch 
   flagged : accepted (tt {0}) ≡ checked (call_checks r (Survey t)) (tt {0}) → t < 1024
   flagged e = omega (arith, leb-false (tiles (plan_of r.cuts)) t (there e), tiles_few (plan_of r.cuts) (lawful_plan r.cuts))
 
-pub returns-in-err-decide : goal.returns-in-err-decide
-returns-in-err-decide g c =
+pub returns-in_err-decide : goal.returns-in_err-decide
+returns-in_err-decide g c =
     let p = err_from_is_err_and c.from-residual.result c.from-residual.ensures.1 in
     rw (p.1, p.2) (record {
-      told = by_state c.args.self.now (g.S.Sheet.meaning c.args.source.now) c.args.tile (length c.args.mouths.now) (length c.args.passes.now) c.args.scratch.now _ _ c.in-err-decide.ensures;
+      told = by_state c.args.self.now (g.S.Sheet.meaning c.args.source.now) c.args.tile (length c.args.mouths.now) (length c.args.passes.now) c.args.scratch.now _ _ c.in_err-decide.ensures;
       leaves = (refl, refl);
       scratch = λ _. refl;
       loans = record { marks = refl; levels = refl; origins = refl; heap = refl; joins = refl };
     })
 
-pub returns-in-err-count : goal.returns-in-err-count
-returns-in-err-count g c =
-    let p = err_from_is_err_and c.from-residual-in-err-count.result c.from-residual-in-err-count.ensures.1 in
-    let e = c.in-err-count.ensures in
+pub returns-in_err-count : goal.returns-in_err-count
+returns-in_err-count g c =
+    let p = err_from_is_err_and c.from-residual-in_err-count.result c.from-residual-in_err-count.ensures.1 in
+    let e = c.in_err-count.ensures in
     rw (p.1, p.2) (record {
-      told = by_tile c.args.self.now (g.S.Sheet.meaning c.args.source.now) c.args.tile (length c.args.mouths.now) (length c.args.passes.now) c.args.scratch.now _ c.in-ok-decide.ensures e.told;
+      told = by_tile c.args.self.now (g.S.Sheet.meaning c.args.source.now) c.args.tile (length c.args.mouths.now) (length c.args.passes.now) c.args.scratch.now _ c.in_ok-decide.ensures e.told;
       leaves = (refl, e.leaves);
       scratch = e.scratch;
       loans = e.loans;
     })
 
 pub bounds-self-tile : goal.bounds-self-tile
-bounds-self-tile g c = flagged c.args.self.now (g.S.Sheet.meaning c.args.source.now) c.args.tile (length c.args.mouths.now) (length c.args.passes.now) c.args.scratch.now c.in-ok-decide.ensures
+bounds-self-tile g c = flagged c.args.self.now (g.S.Sheet.meaning c.args.source.now) c.args.tile (length c.args.mouths.now) (length c.args.passes.now) c.args.scratch.now c.in_ok-decide.ensures
 
 pub returns : goal.returns
 returns g c =
-    let e = c.in-ok-count.ensures in
+    let e = c.in_ok-count.ensures in
     record {
-      told = by_tile c.args.self.now (g.S.Sheet.meaning c.args.source.now) c.args.tile (length c.args.mouths.now) (length c.args.passes.now) c.args.scratch.now _ c.in-ok-decide.ensures e.told;
+      told = by_tile c.args.self.now (g.S.Sheet.meaning c.args.source.now) c.args.tile (length c.args.mouths.now) (length c.args.passes.now) c.args.scratch.now _ c.in_ok-decide.ensures e.told;
       leaves = (record { cuts = refl; state = refl; surveyed = refl }, e.leaves.0, e.leaves.1);
       scratch = tt;
       loans = e.loans;

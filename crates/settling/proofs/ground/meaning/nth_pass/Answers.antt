@@ -10,7 +10,7 @@ use Rattle.tables.specs.Links.{pass_at, far_end, tile_of_mouth}
 use Rattle.tables.proofs.Picking.{Passing, passing_none, passing_some, passing_found, passing_end}
 use Rattle.tables.proofs.Reading.{tile_told, Records, records, pass_read}
 use Rattle.settling.proofs.ground.meaning.nth_pass.Goals as goal
-use Rattle.settling.proofs.ground.meaning.nth_pass.Goals.{in-Some+else-left-eq0, in-default-pass-link}
+use Rattle.settling.proofs.ground.meaning.nth_pass.Goals.{in-Some+else-left-eq0, in_default-pass_link}
 
 -- what the two calls told of the tile
 told_records : (p : Plan) → Lawful p → (t first count : ℕ) → t < tiles p → accepted first ≡ checked (tile_checks p t) (mouth_base p t) → accepted count ≡ checked (tile_checks p t) (tile_mouths p t) → Records p t first count × (first ≡ mouth_base p t) × (count ≡ tile_mouths p t)
@@ -19,32 +19,32 @@ told_records p law t first count h e f =
     let is-count = tile_told p t count (tile_mouths p t) h f in
     (records p law t first count h is-first is-count, is-first, is-count)
 
-pub overflow-sub-k-end : goal.overflow-sub-k-end
-overflow-sub-k-end g c =
-    (told_records (plan_of c.args.cuts.now) (lawful_plan c.args.cuts.now) c.args.tile c.in-Ok.first c.in-Ok-mouths-of.count c.requires.tile.1 c.in-Ok.ensures.told c.in-Ok-mouths-of.ensures.told).0.some
+pub overflow_sub-k-end : goal.overflow_sub-k-end
+overflow_sub-k-end g c =
+    (told_records (plan_of c.args.cuts.now) (lawful_plan c.args.cuts.now) c.args.tile c.in-Ok.first c.in-Ok-mouths_of.count c.requires.tile.1 c.in-Ok.ensures.told c.in-Ok-mouths_of.ensures.told).0.some
 
-pub overflow-sub-first : goal.overflow-sub-first
-overflow-sub-first g c =
-    (told_records (plan_of c.args.cuts.now) (lawful_plan c.args.cuts.now) c.args.tile c.in-Ok.first c.in-Ok-mouths-of.count c.requires.tile.1 c.in-Ok.ensures.told c.in-Ok-mouths-of.ensures.told).0.low
+pub overflow_sub-first : goal.overflow_sub-first
+overflow_sub-first g c =
+    (told_records (plan_of c.args.cuts.now) (lawful_plan c.args.cuts.now) c.args.tile c.in-Ok.first c.in-Ok-mouths_of.count c.requires.tile.1 c.in-Ok.ensures.told c.in-Ok-mouths_of.ensures.told).0.low
 
-pub overflow-add-first : goal.overflow-add-first
-overflow-add-first g c =
-    let r = (told_records (plan_of c.args.cuts.now) (lawful_plan c.args.cuts.now) c.args.tile c.in-Ok.first c.in-Ok-mouths-of.count c.requires.tile.1 c.in-Ok.ensures.told c.in-Ok-mouths-of.ensures.told).0 in
+pub overflow_add-first : goal.overflow_add-first
+overflow_add-first g c =
+    let r = (told_records (plan_of c.args.cuts.now) (lawful_plan c.args.cuts.now) c.args.tile c.in-Ok.first c.in-Ok-mouths_of.count c.requires.tile.1 c.in-Ok.ensures.told c.in-Ok-mouths_of.ensures.told).0 in
     omega (arith, r.few, c.loop-k-test.true)
 
-pub offset-bounds-passes-first : goal.offset-bounds-passes-first
-offset-bounds-passes-first g c =
-    let r = (told_records (plan_of c.args.cuts.now) (lawful_plan c.args.cuts.now) c.args.tile c.in-Ok.first c.in-Ok-mouths-of.count c.requires.tile.1 c.in-Ok.ensures.told c.in-Ok-mouths-of.ensures.told).0 in
+pub offset_bounds-passes-first : goal.offset_bounds-passes-first
+offset_bounds-passes-first g c =
+    let r = (told_records (plan_of c.args.cuts.now) (lawful_plan c.args.cuts.now) c.args.tile c.in-Ok.first c.in-Ok-mouths_of.count c.requires.tile.1 c.in-Ok.ensures.told c.in-Ok-mouths_of.ensures.told).0 in
     omega (arith, r.within, c.loop-k-test.true, c.requires.room)
 
 pub bounds-passes-first : goal.bounds-passes-first
 bounds-passes-first g c =
-    let r = (told_records (plan_of c.args.cuts.now) (lawful_plan c.args.cuts.now) c.args.tile c.in-Ok.first c.in-Ok-mouths-of.count c.requires.tile.1 c.in-Ok.ensures.told c.in-Ok-mouths-of.ensures.told).0 in
+    let r = (told_records (plan_of c.args.cuts.now) (lawful_plan c.args.cuts.now) c.args.tile c.in-Ok.first c.in-Ok-mouths_of.count c.requires.tile.1 c.in-Ok.ensures.told c.in-Ok-mouths_of.ensures.told).0 in
     omega (arith, r.within, c.loop-k-test.true, c.requires.room)
 
-pub overflow-add-first-in-loop-k : goal.overflow-add-first-in-loop-k
-overflow-add-first-in-loop-k g c =
-    let r = (told_records (plan_of c.args.cuts.now) (lawful_plan c.args.cuts.now) c.args.tile c.in-Ok.first c.in-Ok-mouths-of.count c.requires.tile.1 c.in-Ok.ensures.told c.in-Ok-mouths-of.ensures.told).0 in
+pub overflow_add-first-in-loop-k : goal.overflow_add-first-in-loop-k
+overflow_add-first-in-loop-k g c =
+    let r = (told_records (plan_of c.args.cuts.now) (lawful_plan c.args.cuts.now) c.args.tile c.in-Ok.first c.in-Ok-mouths_of.count c.requires.tile.1 c.in-Ok.ensures.told c.in-Ok-mouths_of.ensures.told).0 in
     omega (arith, r.few)
 
 -- the link by the record at the place of a turn
@@ -64,10 +64,10 @@ returns-then-left-eq0 g c =
     let p = plan_of c.args.cuts.now in
     let law = lawful_plan c.args.cuts.now in
     let ps = c.args.passes.now in
-    let told = c.in-Ok-mouths-of.ensures.told in
-    let here = linked p law ps c.args.node c.args.tile c.in-Ok.first c.in-Ok-mouths-of.count c.loop-k.k c.index-passes-first.result c.pass-link.result c.requires.tile c.in-Ok.ensures.told told c.loop-k-test.true c.requires.room c.index-passes-first.is c.pass-link.ensures in
-    counted p ps c.args.node c.args.tile c.in-Ok-mouths-of.count c.args.place (Some c.in-Some.link) c.requires.tile.1 told
-    (passing_found (pass_at p ps c.args.node) (c.in-Ok-mouths-of.count - 1) c.args.place c.loop-k.k c.loop-k.left c.in-Some.link c.loop-k-test.true (here ∙ c.in-Some.is) c.if-left-eq0.true c.loop-k.invariant)
+    let told = c.in-Ok-mouths_of.ensures.told in
+    let here = linked p law ps c.args.node c.args.tile c.in-Ok.first c.in-Ok-mouths_of.count c.loop-k.k c.index-passes-first.result c.pass_link.result c.requires.tile c.in-Ok.ensures.told told c.loop-k-test.true c.requires.room c.index-passes-first.is c.pass_link.ensures in
+    counted p ps c.args.node c.args.tile c.in-Ok-mouths_of.count c.args.place (Some c.in-Some.link) c.requires.tile.1 told
+    (passing_found (pass_at p ps c.args.node) (c.in-Ok-mouths_of.count - 1) c.args.place c.loop-k.k c.loop-k.left c.in-Some.link c.loop-k-test.true (here ∙ c.in-Some.is) c.if-left-eq0.true c.loop-k.invariant)
 
 pub loop-k-preserved : goal.loop-k-preserved
 loop-k-preserved g c =
@@ -75,18 +75,18 @@ loop-k-preserved g c =
     let law = lawful_plan c.args.cuts.now in
     let ps = c.args.passes.now in
     let f = pass_at p ps c.args.node in
-    let n = c.in-Ok-mouths-of.count - 1 in
-    let here = linked p law ps c.args.node c.args.tile c.in-Ok.first c.in-Ok-mouths-of.count c.loop-k.k c.index-passes-first.result c.pass-link.result c.requires.tile c.in-Ok.ensures.told c.in-Ok-mouths-of.ensures.told c.loop-k-test.true c.requires.room c.index-passes-first.is c.pass-link.ensures in
-    elim c.match-pass-link.branch [
+    let n = c.in-Ok-mouths_of.count - 1 in
+    let here = linked p law ps c.args.node c.args.tile c.in-Ok.first c.in-Ok-mouths_of.count c.loop-k.k c.index-passes-first.result c.pass_link.result c.requires.tile c.in-Ok.ensures.told c.in-Ok-mouths_of.ensures.told c.loop-k-test.true c.requires.room c.index-passes-first.is c.pass_link.ensures in
+    elim c.match-pass_link.branch [
       | in-Some+else-left-eq0 w ↦
           rw w.left-is (passing_some f n c.args.place c.loop-k.k c.loop-k.left w.in-Some.link c.loop-k-test.true (here ∙ w.in-Some.is) (omega (arith, w.if-left-eq0.false)) c.loop-k.invariant)
-      | in-default-pass-link w ↦
-          rw w.left-is (passing_none f n c.args.place c.loop-k.k c.loop-k.left c.loop-k-test.true (here ∙ w.in-default-pass-link.is) c.loop-k.invariant)
+      | in_default-pass_link w ↦
+          rw w.left-is (passing_none f n c.args.place c.loop-k.k c.loop-k.left c.loop-k-test.true (here ∙ w.in_default-pass_link.is) c.loop-k.invariant)
     ]
 
 pub returns : goal.returns
 returns g c =
     let p = plan_of c.args.cuts.now in
     let ps = c.args.passes.now in
-    counted p ps c.args.node c.args.tile c.in-Ok-mouths-of.count c.args.place None c.requires.tile.1 c.in-Ok-mouths-of.ensures.told
-    (passing_end (pass_at p ps c.args.node) (c.in-Ok-mouths-of.count - 1) c.args.place c.loop-k.k c.loop-k.left c.loop-k-test.false c.loop-k.invariant).1
+    counted p ps c.args.node c.args.tile c.in-Ok-mouths_of.count c.args.place None c.requires.tile.1 c.in-Ok-mouths_of.ensures.told
+    (passing_end (pass_at p ps c.args.node) (c.in-Ok-mouths_of.count - 1) c.args.place c.loop-k.k c.loop-k.left c.loop-k-test.false c.loop-k.invariant).1

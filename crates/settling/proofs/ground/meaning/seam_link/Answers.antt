@@ -32,67 +32,67 @@ around-requires g c =
     let s = small (plan_of c.args.cuts.now) c.sides-rows.ensures.rules c.args.node c.args.mouth c.requires.here in
     (s.0, (s.1, c.requires.k))
 
-pub returns-in-err-cell : goal.returns-in-err-cell
-returns-in-err-cell g c =
+pub returns-in_err-cell : goal.returns-in_err-cell
+returns-in_err-cell g c =
     let p = plan_of c.args.cuts.now in
     let m = c.args.mouth in
     c.from-residual.ensures
     ∙ sym (seam_outside (kind_of g.M.Order g.row.M-Mark) p c.sides-rows.ensures.rules c.args.mouths.now c.args.node c.args.k m.row m.col c.requires.here.number
-    (looked p c.sides-rows.result (place m.row m.col) c.args.k None c.around.result c.sides-rows.ensures.value c.around.ensures c.in-err-cell.was))
+    (looked p c.sides-rows.result (place m.row m.col) c.args.k None c.around.result c.sides-rows.ensures.value c.around.ensures c.in_err-cell.was))
 
-pub returns-in-err-spot : goal.returns-in-err-spot
-returns-in-err-spot g c =
+pub returns-in_err-spot : goal.returns-in_err-spot
+returns-in_err-spot g c =
     let p = plan_of c.args.cuts.now in
     let m = c.args.mouth in
-    let d = c.in-ok-cell.cell in
+    let d = c.in_ok-cell.cell in
     absurd (seam_spot (kind_of g.M.Order g.row.M-Mark) p c.sides-rows.ensures.rules c.args.mouths.now c.args.node c.args.k m.row m.col c.requires.here.number d
-    (looked p c.sides-rows.result (place m.row m.col) c.args.k (Some d) c.around.result c.sides-rows.ensures.value c.around.ensures c.in-ok-cell.was)
-    (sym c.spot.ensures ∙ c.in-err-spot.was))
+    (looked p c.sides-rows.result (place m.row m.col) c.args.k (Some d) c.around.result c.sides-rows.ensures.value c.around.ensures c.in_ok-cell.was)
+    (sym c.spot.ensures ∙ c.in_err-spot.was))
 
 pub returns-then-spot-mouth : goal.returns-then-spot-mouth
 returns-then-spot-mouth g c =
     let p = plan_of c.args.cuts.now in
     let m = c.args.mouth in
-    let d = c.in-ok-cell.cell in
-    let s = c.in-ok-spot.spot in
+    let d = c.in_ok-cell.cell in
+    let s = c.in_ok-spot.spot in
     sym (seam_inside (kind_of g.M.Order g.row.M-Mark) p c.sides-rows.ensures.rules c.args.mouths.now c.args.node c.args.k m.row m.col c.requires.here.number d
-    (looked p c.sides-rows.result (place m.row m.col) c.args.k (Some d) c.around.result c.sides-rows.ensures.value c.around.ensures c.in-ok-cell.was)
-    s (sym c.spot.ensures ∙ c.in-ok-spot.was) (c.if-spot-mouth.true ∙ c.requires.here.tile))
+    (looked p c.sides-rows.result (place m.row m.col) c.args.k (Some d) c.around.result c.sides-rows.ensures.value c.around.ensures c.in_ok-cell.was)
+    s (sym c.spot.ensures ∙ c.in_ok-spot.was) (c.if-spot-mouth.true ∙ c.requires.here.tile))
 
-pub returns-in-err-far : goal.returns-in-err-far
-returns-in-err-far g c =
+pub returns-in_err-far : goal.returns-in_err-far
+returns-in_err-far g c =
     let p = plan_of c.args.cuts.now in
     let m = c.args.mouth in
-    let d = c.in-ok-cell.cell in
-    let s = c.in-ok-spot.spot in
+    let d = c.in_ok-cell.cell in
+    let s = c.in_ok-spot.spot in
     let κ = kind_of g.M.Order g.row.M-Mark in
     let ms = c.args.mouths.now in
-    c.from-residual-in-err-far.ensures
+    c.from-residual-in_err-far.ensures
     ∙ sym (seam_over κ p c.sides-rows.ensures.rules ms c.args.node c.args.k m.row m.col c.requires.here.number d
-    (looked p c.sides-rows.result (place m.row m.col) c.args.k (Some d) c.around.result c.sides-rows.ensures.value c.around.ensures c.in-ok-cell.was)
-    s (sym c.spot.ensures ∙ c.in-ok-spot.was) (λ e. c.if-spot-mouth.false (e ∙ sym c.requires.here.tile))
-    ∙ ap (link_to κ ms c.args.node) (sym c.mouth-number.ensures ∙ c.in-err-far.was))
+    (looked p c.sides-rows.result (place m.row m.col) c.args.k (Some d) c.around.result c.sides-rows.ensures.value c.around.ensures c.in_ok-cell.was)
+    s (sym c.spot.ensures ∙ c.in_ok-spot.was) (λ e. c.if-spot-mouth.false (e ∙ sym c.requires.here.tile))
+    ∙ ap (link_to κ ms c.args.node) (sym c.mouth_number.ensures ∙ c.in_err-far.was))
 
-pub seam-level-requires : goal.seam-level-requires
-seam-level-requires g c =
+pub seam_level-requires : goal.seam_level-requires
+seam_level-requires g c =
     let p = plan_of c.args.cuts.now in
     let law = c.sides-rows.ensures.rules in
-    let d = c.in-ok-cell.cell in
+    let d = c.in_ok-cell.cell in
     let m = c.args.mouth in (
       below p law m.row m.col c.args.node _ c.requires.here.number c.requires.room,
-      below p law d.row d.col c.in-ok-far.far _ (sym c.mouth-number.ensures ∙ c.in-ok-far.was) c.requires.room,
+      below p law d.row d.col c.in_ok-far.far _ (sym c.mouth_number.ensures ∙ c.in_ok-far.was) c.requires.room,
     )
 
 pub returns : goal.returns
 returns g c =
     let p = plan_of c.args.cuts.now in
     let m = c.args.mouth in
-    let d = c.in-ok-cell.cell in
-    let s = c.in-ok-spot.spot in
+    let d = c.in_ok-cell.cell in
+    let s = c.in_ok-spot.spot in
     let κ = kind_of g.M.Order g.row.M-Mark in
     let ms = c.args.mouths.now in
-    ap (λ l. Some (c.in-ok-far.far, l)) c.seam-level.ensures
+    ap (λ l. Some (c.in_ok-far.far, l)) c.seam_level.ensures
     ∙ sym (seam_over κ p c.sides-rows.ensures.rules ms c.args.node c.args.k m.row m.col c.requires.here.number d
-    (looked p c.sides-rows.result (place m.row m.col) c.args.k (Some d) c.around.result c.sides-rows.ensures.value c.around.ensures c.in-ok-cell.was)
-    s (sym c.spot.ensures ∙ c.in-ok-spot.was) (λ e. c.if-spot-mouth.false (e ∙ sym c.requires.here.tile))
-    ∙ ap (link_to κ ms c.args.node) (sym c.mouth-number.ensures ∙ c.in-ok-far.was))
+    (looked p c.sides-rows.result (place m.row m.col) c.args.k (Some d) c.around.result c.sides-rows.ensures.value c.around.ensures c.in_ok-cell.was)
+    s (sym c.spot.ensures ∙ c.in_ok-spot.was) (λ e. c.if-spot-mouth.false (e ∙ sym c.requires.here.tile))
+    ∙ ap (link_to κ ms c.args.node) (sym c.mouth_number.ensures ∙ c.in_ok-far.was))

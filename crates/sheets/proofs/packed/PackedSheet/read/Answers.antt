@@ -8,17 +8,17 @@ use Rattle.sheets.proofs.Codes.{codes_unbroken, codes_broken, codes_held}
 use Rattle.sheets.proofs.Starts.{Started, started}
 use Rattle.sheets.proofs.packed.PackedSheet.read.Given as given
 use Rattle.sheets.proofs.packed.PackedSheet.read.Goals as goal
-use Rattle.sheets.proofs.packed.PackedSheet.read.Goals.{in-Some, in-default}
+use Rattle.sheets.proofs.packed.PackedSheet.read.Goals.{in-Some, in_default}
 
 pub readable-requires : goal.readable-requires
 readable-requires g c =
     let s = c.args.self.now in
-    (started s.rows s.cols c.args.row c.args.col (length c.args.out.now) _ c.in-ok-from.ensures).ends
+    (started s.rows s.cols c.args.row c.args.col (length c.args.out.now) _ c.in_ok-from.ensures).ends
 
 pub returns-then-not-readable : goal.returns-then-not-readable
 returns-then-not-readable g c =
     let s = c.args.self.now in
-    let t = started s.rows s.cols c.args.row c.args.col (length c.args.out.now) _ c.in-ok-from.ensures in
+    let t = started s.rows s.cols c.args.row c.args.col (length c.args.out.now) _ c.in_ok-from.ensures in
     let d = when_false _ _ c.if-not-readable.true c.readable.ensures in
     record {
       told = passes _ _ (_ ∷ []) _ _ t.inside (fails _ _ [] _ (codes_broken g.M.CodedMark.decoded s.rows s.cols s.bytes.now c.args.row c.args.col _ (length c.args.out.now) t.is d.0 d.1 d.2));
@@ -28,29 +28,29 @@ returns-then-not-readable g c =
 pub loop-k-init : goal.loop-k-init
 loop-k-init g c = λ k h. absurd (omega arith)
 
-pub mark-at-requires : goal.mark-at-requires
-mark-at-requires g c =
+pub mark_at-requires : goal.mark_at-requires
+mark_at-requires g c =
     let s = c.args.self.now in
-    let t = started s.rows s.cols c.args.row c.args.col (length c.args.out.now) _ c.in-ok-from.ensures in
+    let t = started s.rows s.cols c.args.row c.args.col (length c.args.out.now) _ c.in_ok-from.ensures in
     omega (arith, t.ends)
 
 pub loop-k-preserved : goal.loop-k-preserved
 loop-k-preserved g c =
     let decoded = g.M.CodedMark.decoded in
     let bs = c.args.self.now.bytes.now in
-    let from = c.in-ok-from.from in
+    let from = c.in_ok-from.from in
     let C : ℕ → Cell g.row.M.Denot = λ k. code_cell decoded bs (from + k) in
     let live = when_true _ _ c.if-not-readable.false c.readable.ensures in
     let room : c.loop-k.k < length c.loop-k.out = omega (arith, c.loop-k.auto.out) in
-    elim c.match-mark-at.branch [
+    elim c.match-mark_at.branch [
       | in-Some w ↦ rw w.out-is (at_fill C c.loop-k.out c.loop-k.k w.in-Some.mark c.loop-k.invariant room (ap cell_of (sym w.in-Some.ensures)))
-      | in-default w ↦ absurd (none_dead (decoded (code_at bs (from + c.loop-k.k))) w.in-default.ensures (live c.loop-k.k c.loop-k-test.true))
+      | in_default w ↦ absurd (none_dead (decoded (code_at bs (from + c.loop-k.k))) w.in_default.ensures (live c.loop-k.k c.loop-k-test.true))
     ]
 
 pub returns : goal.returns
 returns g c =
     let s = c.args.self.now in
-    let t = started s.rows s.cols c.args.row c.args.col (length c.args.out.now) _ c.in-ok-from.ensures in
+    let t = started s.rows s.cols c.args.row c.args.col (length c.args.out.now) _ c.in_ok-from.ensures in
     let live = when_true _ _ c.if-not-readable.false c.readable.ensures in
     record {
       told = passes _ _ (_ ∷ []) _ _ t.inside (passes _ _ [] _ _ (codes_unbroken g.M.CodedMark.decoded s.rows s.cols s.bytes.now c.args.row c.args.col _ (length c.args.out.now) t.is live) refl);

@@ -4,16 +4,16 @@ use Rattle.sheets.proofs.Spans.{read_part, flat_unbroken}
 use Rattle.sheets.proofs.Starts.{Started, started}
 use Rattle.sheets.proofs.raster.RasterSheet.read.Goals as goal
 
-pub offset-bounds-self-from : goal.offset-bounds-self-from
-offset-bounds-self-from g c =
+pub offset_bounds-self-from : goal.offset_bounds-self-from
+offset_bounds-self-from g c =
     let s = c.args.self.now in
-    let t = started s.rows s.cols c.args.row c.args.col (length c.args.out.now) _ c.in-ok-from.ensures in
+    let t = started s.rows s.cols c.args.row c.args.col (length c.args.out.now) _ c.in_ok-from.ensures in
     omega (arith, s.long, t.ends)
 
-pub slice-bounds-copy-from-slice-end : goal.slice-bounds-copy-from-slice-end
-slice-bounds-copy-from-slice-end g c =
+pub slice_bounds-copy_from_slice-end : goal.slice_bounds-copy_from_slice-end
+slice_bounds-copy_from_slice-end g c =
     let s = c.args.self.now in
-    let t = started s.rows s.cols c.args.row c.args.col (length c.args.out.now) _ c.in-ok-from.ensures in
+    let t = started s.rows s.cols c.args.row c.args.col (length c.args.out.now) _ c.in_ok-from.ensures in
     let l = s.long in
     let e = t.ends in
     search rules
@@ -21,8 +21,8 @@ slice-bounds-copy-from-slice-end g c =
 pub returns : goal.returns
 returns g c =
     let s = c.args.self.now in
-    let t = started s.rows s.cols c.args.row c.args.col (length c.args.out.now) _ c.in-ok-from.ensures in
+    let t = started s.rows s.cols c.args.row c.args.col (length c.args.out.now) _ c.in_ok-from.ensures in
     record {
       told = passes _ _ (_ ∷ []) _ _ t.inside (passes _ _ [] _ _ (flat_unbroken s.rows s.cols s.cells.now c.args.row c.args.col (length c.args.out.now) (omega (arith, s.long, t.ends, t.is))) refl);
-      leaves = (c.copy-from-slice.ensures.len, read_part _ _ _ _ c.args.row s.cols c.args.col t.is c.copy-from-slice.ensures.after (omega (arith, c.copy-from-slice.ensures.len)));
+      leaves = (c.copy_from_slice.ensures.len, read_part _ _ _ _ c.args.row s.cols c.args.col t.is c.copy_from_slice.ensures.after (omega (arith, c.copy_from_slice.ensures.len)));
     }

@@ -4,22 +4,22 @@ use Rattle.sheets.proofs.Spans.{put_more, put_written}
 use Rattle.sheets.proofs.Starts.{Started, started}
 use Rattle.sheets.proofs.raster.RasterWritableSheet.write.Goals as goal
 
-pub offset-bounds-self-from : goal.offset-bounds-self-from
-offset-bounds-self-from g c =
+pub offset_bounds-self-from : goal.offset_bounds-self-from
+offset_bounds-self-from g c =
     let s = c.args.self.now in
-    let h : c.in-ok-from.from + c.loop-k.k < length c.loop-k.self.cells.now = omega (arith, s.long, (started s.rows s.cols c.args.row c.args.col (length c.args.marks.now) _ c.in-ok-from.ensures).ends, c.loop-k.invariant.2.long) in
+    let h : c.in_ok-from.from + c.loop-k.k < length c.loop-k.self.cells.now = omega (arith, s.long, (started s.rows s.cols c.args.row c.args.col (length c.args.marks.now) _ c.in_ok-from.ensures).ends, c.loop-k.invariant.2.long) in
     search rules
 
 pub bounds-self-from : goal.bounds-self-from
 bounds-self-from g c =
     let s = c.args.self.now in
-    let t = started s.rows s.cols c.args.row c.args.col (length c.args.marks.now) _ c.in-ok-from.ensures in
+    let t = started s.rows s.cols c.args.row c.args.col (length c.args.marks.now) _ c.in_ok-from.ensures in
     omega (arith, s.long, t.ends, c.loop-k.invariant.2.long)
 
 pub loop-k-preserved : goal.loop-k-preserved
 loop-k-preserved g c =
     let s = c.args.self.now in
-    let t = started s.rows s.cols c.args.row c.args.col (length c.args.marks.now) _ c.in-ok-from.ensures in (
+    let t = started s.rows s.cols c.args.row c.args.col (length c.args.marks.now) _ c.in_ok-from.ensures in (
       c.loop-k.invariant.0,
       c.loop-k.invariant.1,
       put_more _ _ c.args.marks.now _ c.loop-k.k _ c.loop-k.invariant.2 (omega (arith, s.long, t.ends)) (omega arith) c.index-marks-k.is,
@@ -29,7 +29,7 @@ loop-k-preserved g c =
 pub returns : goal.returns
 returns g c =
     let s = c.args.self.now in
-    let t = started s.rows s.cols c.args.row c.args.col (length c.args.marks.now) _ c.in-ok-from.ensures in
+    let t = started s.rows s.cols c.args.row c.args.col (length c.args.marks.now) _ c.in_ok-from.ensures in
     let all : c.loop-k.k ≡ length c.args.marks.now = omega arith in
     record {
       loans = ap (λ n. n ∷ []) c.loop-k.invariant.3;

@@ -5,8 +5,8 @@ use Rattle.tiles.proofs.Tilings.{side_below}
 use Rattle.tiles.proofs.Bands.{band_read, start_below}
 use Rattle.tiles.proofs.cuts.CutList.block.Goals as goal
 
-pub invariant-of-result : goal.invariant-of-result
-invariant-of-result c =
+pub invariant_of-result : goal.invariant_of-result
+invariant_of-result c =
     let p = plan_of c.args.self.now in
     let l = lawful_plan c.args.self.now in
     let rows = band_read p.rows p.down c.args.i _ _ l.down (omega (arith, c.requires)) c.start.ensures c.start-2.ensures in

@@ -4,23 +4,23 @@ use Rattle.tiles.proofs.Tilings.{lawful_plan, tile_small}
 use Rattle.tiles.proofs.Indices.{mouth_found, mouth_tile, mouth_there}
 use Rattle.tiles.proofs.cuts.CutList.mouth.Goals as goal
 
-pub returns-in-err-row : goal.returns-in-err-row
-returns-in-err-row c =
-    let there = mouth_there (plan_of c.args.self.now) _ _ _ _ _ c.in-ok-j.ensures c.block.ensures in
-    rw c.from-residual-in-err-row.ensures (absurd (omega (arith, there, c.in-err-row.ensures)))
+pub returns-in_err-row : goal.returns-in_err-row
+returns-in_err-row c =
+    let there = mouth_there (plan_of c.args.self.now) _ _ _ _ _ c.in_ok-j.ensures c.block.ensures in
+    rw c.from-residual-in_err-row.ensures (absurd (omega (arith, there, c.in_err-row.ensures)))
 
-pub overflow-add-result : goal.overflow-add-result
-overflow-add-result c =
+pub overflow_add-result : goal.overflow_add-result
+overflow_add-result c =
     let p = plan_of c.args.self.now in
-    omega (arith, tile_small p _ _ _ (lawful_plan c.args.self.now) c.in-ok-i.ensures.exists c.in-ok-j.ensures.exists c.bands.ensures)
+    omega (arith, tile_small p _ _ _ (lawful_plan c.args.self.now) c.in_ok-i.ensures.exists c.in_ok-j.ensures.exists c.bands.ensures)
 
-pub overflow-mul-result : goal.overflow-mul-result
-overflow-mul-result c = let whole = overflow-add-result c in omega arith
+pub overflow_mul-result : goal.overflow_mul-result
+overflow_mul-result c = let whole = overflow_add-result c in omega arith
 
 pub returns : goal.returns
 returns c =
     let p = plan_of c.args.self.now in
     let l = lawful_plan c.args.self.now in (
-      mouth_found p _ _ _ _ _ _ _ _ l c.in-ok-i.ensures c.in-ok-j.ensures c.block.ensures c.in-ok-row.ensures,
-      mouth_tile p _ _ _ _ _ _ _ _ l c.in-ok-j.ensures c.block.ensures c.in-ok-row.ensures c.bands.ensures,
+      mouth_found p _ _ _ _ _ _ _ _ l c.in_ok-i.ensures c.in_ok-j.ensures c.block.ensures c.in_ok-row.ensures,
+      mouth_tile p _ _ _ _ _ _ _ _ l c.in_ok-j.ensures c.block.ensures c.in_ok-row.ensures c.bands.ensures,
     )

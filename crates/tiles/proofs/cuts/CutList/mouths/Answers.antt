@@ -8,4 +8,4 @@ use Rattle.tiles.proofs.cuts.CutList.mouths.Goals as goal
 pub returns : goal.returns
 returns c =
     let p = plan_of c.args.self.now in
-    record { value = c.mouths-above.ensures ∙ ap (row_base p) c.bands.ensures; laws = numbered p (lawful_plan c.args.self.now) }
+    record { value = c.mouths_above.ensures ∙ ap (row_base p) c.bands.ensures; laws = numbered p (lawful_plan c.args.self.now) }

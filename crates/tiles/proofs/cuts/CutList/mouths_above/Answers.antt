@@ -8,13 +8,13 @@ use Rattle.tiles.proofs.cuts.CutList.mouths_above.Goals as goal
 pub loop-i-init : goal.loop-i-init
 loop-i-init c = sym (row_none (plan_of c.args.self.now))
 
-pub overflow-add-sum : goal.overflow-add-sum
-overflow-add-sum c =
+pub overflow_add-sum : goal.overflow_add-sum
+overflow_add-sum c =
     let p = plan_of c.args.self.now in
-    omega (arith, c.row-mouths-sum.ensures, c.loop-i.invariant, row_small p (c.loop-i.i + 1) (lawful_plan c.args.self.now) (omega arith))
+    omega (arith, c.row_mouths-sum.ensures, c.loop-i.invariant, row_small p (c.loop-i.i + 1) (lawful_plan c.args.self.now) (omega arith))
 
 pub loop-i-preserved : goal.loop-i-preserved
-loop-i-preserved c = omega (arith, c.row-mouths-sum.ensures, c.loop-i.invariant)
+loop-i-preserved c = omega (arith, c.row_mouths-sum.ensures, c.loop-i.invariant)
 
 pub returns : goal.returns
 returns c =

@@ -7,7 +7,7 @@ use Rattle.tiles.proofs.Numberings.{row_start, base_column, column_small}
 use Rattle.tiles.proofs.cuts.CutList.mouths_before.Goals as goal
 
 pub loop-k-init : goal.loop-k-init
-loop-k-init c = c.mouths-above-sum.ensures ∙ sym (row_start (plan_of c.args.self.now) c.args.i)
+loop-k-init c = c.mouths_above-sum.ensures ∙ sym (row_start (plan_of c.args.self.now) c.args.i)
 
 pub block-requires : goal.block-requires
 block-requires c = (omega (arith, c.requires), omega (arith, c.requires, c.loop-k-test.true))
@@ -18,8 +18,8 @@ next c =
     let p = plan_of c.args.self.now in
     omega (arith, base_column p c.args.i c.loop-k.k (omega (arith, c.requires, c.loop-k-test.true)), c.loop-k.invariant, c.mouths-sum.ensures, ap (λ a. border (height a) (width a)) c.block.ensures)
 
-pub overflow-add-sum : goal.overflow-add-sum
-overflow-add-sum c =
+pub overflow_add-sum : goal.overflow_add-sum
+overflow_add-sum c =
     let p = plan_of c.args.self.now in
     omega (arith, next c, column_small p c.args.i (c.loop-k.k + 1) (lawful_plan c.args.self.now) (omega (arith, c.requires)) (omega (arith, c.requires, c.loop-k-test.true)))
 

@@ -5,7 +5,7 @@ use Rattle.tiles.specs.Plans.{tiles}
 use Rattle.tiles.proofs.Numberings.{base_many}
 use Rattle.tiles.proofs.cuts.CutList.passes.Goals as goal
 
-pub overflow-sub-result : goal.overflow-sub-result
-overflow-sub-result c =
+pub overflow_sub-result : goal.overflow_sub-result
+overflow_sub-result c =
     let p = plan_of c.args.self.now in
     omega (arith, base_many p (tiles p) (lawful_plan c.args.self.now) (omega arith), c.mouths.ensures.value, c.tiles.ensures.value)

@@ -9,8 +9,8 @@ use Rattle.tiles.proofs.Bands.{band_read, size_read, singles_few, lawful_few}
 use Rattle.tiles.proofs.Numberings.{line_row, ring_row}
 use Rattle.tiles.proofs.cuts.CutList.row_mouths.Goals as goal
 
-pub overflow-sub-height : goal.overflow-sub-height
-overflow-sub-height c =
+pub overflow_sub-height : goal.overflow_sub-height
+overflow_sub-height c =
     let p = plan_of c.args.self.now in
     omega (arith, (band_read p.rows p.down c.args.i _ _ (lawful_plan c.args.self.now).down c.requires c.start-2.ensures c.start.ensures).rises)
 
@@ -43,17 +43,17 @@ factors c =
 product : (single bands top bottom side : ℕ) → Factors single bands top bottom side → (2 * bands - single) * (bottom - top - 2) ≤ 4096
 product single bands top bottom side f = mul-le (2 * bands - single) (bottom - top - 2) 64 64 (omega (arith, f.few)) (omega (arith, f.near))
 
-pub overflow-sub-result : goal.overflow-sub-result
-overflow-sub-result c = omega (arith, (factors c).some)
+pub overflow_sub-result : goal.overflow_sub-result
+overflow_sub-result c = omega (arith, (factors c).some)
 
-pub overflow-sub-result-2 : goal.overflow-sub-result-2
-overflow-sub-result-2 c = (factors c).tall
+pub overflow_sub-result-2 : goal.overflow_sub-result-2
+overflow_sub-result-2 c = (factors c).tall
 
-pub overflow-mul-result-3 : goal.overflow-mul-result-3
-overflow-mul-result-3 c = let small = product _ _ _ _ _ (factors c) in omega arith
+pub overflow_mul-result-3 : goal.overflow_mul-result-3
+overflow_mul-result-3 c = let small = product _ _ _ _ _ (factors c) in omega arith
 
-pub overflow-add-result : goal.overflow-add-result
-overflow-add-result c =
+pub overflow_add-result : goal.overflow_add-result
+overflow_add-result c =
     let small = product _ _ _ _ _ (factors c) in
     let long = (factors c).long in
     omega arith

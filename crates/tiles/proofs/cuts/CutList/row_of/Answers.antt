@@ -11,11 +11,11 @@ pub returns-then-left-here : goal.returns-then-left-here
 returns-then-left-here c = record {
   exists = omega (arith, c.loop-i-test.true, c.bands-i-end.ensures);
   number = c.loop-i.invariant;
-  below = omega (arith, c.loop-i.invariant, c.row-mouths-here.ensures, c.if-left-here.true);
+  below = omega (arith, c.loop-i.invariant, c.row_mouths-here.ensures, c.if-left-here.true);
 }
 
 pub loop-i-preserved : goal.loop-i-preserved
-loop-i-preserved c = omega (arith, c.loop-i.invariant, c.row-mouths-here.ensures, c.if-left-here.false)
+loop-i-preserved c = omega (arith, c.loop-i.invariant, c.row_mouths-here.ensures, c.if-left-here.false)
 
 pub returns : goal.returns
 returns c =

@@ -4,4 +4,4 @@ use Rattle.marks.specs.HeightsLemmas.{height_of_code}
 use Rattle.marks.proofs.height.codes.HeightCodedMark.from_code.Goals as goal
 
 pub returns : goal.returns
-returns c = sym (height_of_code c.args.code _ c.ranges.code.fits (to_z-of_z w16 c.cast-signed.result (record { sfits = c.cast-signed.type-inv }) ∙ c.cast-signed.ensures))
+returns c = sym (height_of_code c.args.code _ c.ranges.code.fits (to_z-of_z w16 c.cast_signed.result (record { sfits = c.cast_signed.type_inv }) ∙ c.cast_signed.ensures))

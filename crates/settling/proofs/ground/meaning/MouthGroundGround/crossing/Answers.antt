@@ -26,30 +26,30 @@ in_passes κ p w law i j a t place left o e is-t far is =
     ∙ ap (slice_get (seams ++ picked (pass_at p w.passes a) 0 (tile_mouths p (tile_of_mouth p a) - 1))) far
     ∙ ap (λ xs. slice_get xs place) (sym (listed κ p w law a ((numbered p law).interval i j a e).3))
 
-pub returns-in-err-mouth : goal.returns-in-err-mouth
-returns-in-err-mouth g c =
+pub returns-in_err-mouth : goal.returns-in_err-mouth
+returns-in_err-mouth g c =
     let s = c.args.self.now in
     c.from-residual.ensures
-    ∙ sym (ap (λ xs. slice_get xs c.args.place) (unlisted (kind_of g.M.Order g.row.M-Mark) (plan_of s.cuts) (tables s.mouths.now s.passes.now) (lawful_plan s.cuts) c.args.node c.in-err-mouth.ensures))
+    ∙ sym (ap (λ xs. slice_get xs c.args.place) (unlisted (kind_of g.M.Order g.row.M-Mark) (plan_of s.cuts) (tables s.mouths.now s.passes.now) (lawful_plan s.cuts) c.args.node c.in_err-mouth.ensures))
 
-pub nth-pass-requires : goal.nth-pass-requires
-nth-pass-requires g c =
+pub nth_pass-requires : goal.nth_pass-requires
+nth_pass-requires g c =
     let s = c.args.self.now in
     let p = plan_of s.cuts in
-    let m = c.in-ok-mouth.mouth in
-    let e = c.in-ok-mouth.ensures in
+    let m = c.in_ok-mouth.mouth in
+    let e = c.in_ok-mouth.ensures in
     let tile = e.1 ∙ sym (tile_read (kind_of g.M.Order g.row.M-Mark) p (lawful_plan s.cuts) s.mouths.now c.args.node 0 m.row m.col e.0) in
     record { room = s.passed; tile = (tile, rw e.1 (tile_exists p m.row m.col)) }
 
 pub returns-in-Ok : goal.returns-in-Ok
 returns-in-Ok g c =
     let s = c.args.self.now in
-    let m = c.in-ok-mouth.mouth in
-    sym (in_seams (kind_of g.M.Order g.row.M-Mark) (plan_of s.cuts) (tables s.mouths.now s.passes.now) (lawful_plan s.cuts) m.row m.col c.args.node c.args.place c.in-Ok.link c.in-ok-mouth.ensures.0 c.in-Ok.ensures)
+    let m = c.in_ok-mouth.mouth in
+    sym (in_seams (kind_of g.M.Order g.row.M-Mark) (plan_of s.cuts) (tables s.mouths.now s.passes.now) (lawful_plan s.cuts) m.row m.col c.args.node c.args.place c.in-Ok.link c.in_ok-mouth.ensures.0 c.in-Ok.ensures)
 
 pub returns-in-Err : goal.returns-in-Err
 returns-in-Err g c =
     let s = c.args.self.now in
-    let m = c.in-ok-mouth.mouth in
-    let e = c.in-ok-mouth.ensures in
-    in_passes (kind_of g.M.Order g.row.M-Mark) (plan_of s.cuts) (tables s.mouths.now s.passes.now) (lawful_plan s.cuts) m.row m.col c.args.node m.tile c.args.place c.in-Err.left c.nth-pass.result e.0 e.1 c.in-Err.ensures c.nth-pass.ensures
+    let m = c.in_ok-mouth.mouth in
+    let e = c.in_ok-mouth.ensures in
+    in_passes (kind_of g.M.Order g.row.M-Mark) (plan_of s.cuts) (tables s.mouths.now s.passes.now) (lawful_plan s.cuts) m.row m.col c.args.node m.tile c.args.place c.in-Err.left c.nth_pass.result e.0 e.1 c.in-Err.ensures c.nth_pass.ensures

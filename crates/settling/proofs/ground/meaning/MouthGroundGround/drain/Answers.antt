@@ -16,56 +16,56 @@ inside p law i j a s e is =
     let r = number_in p law i j a e in
     (omega (arith, r.0, ap (λ z. z.0) is), omega (arith, r.1, ap (λ z. z.1) is))
 
-pub returns-in-err-mouth : goal.returns-in-err-mouth
-returns-in-err-mouth g c =
+pub returns-in_err-mouth : goal.returns-in_err-mouth
+returns-in_err-mouth g c =
     let s = c.args.self.now in
     let p = plan_of s.cuts in
-    c.from-residual.ensures ∙ sym (drain_none (kind_of g.M.Order g.row.M-Mark) p (tables s.mouths.now s.passes.now) (lawful_plan s.cuts) c.args.node c.in-err-mouth.ensures)
+    c.from-residual.ensures ∙ sym (drain_none (kind_of g.M.Order g.row.M-Mark) p (tables s.mouths.now s.passes.now) (lawful_plan s.cuts) c.args.node c.in_err-mouth.ensures)
 
-pub on-edge-requires : goal.on-edge-requires
-on-edge-requires g c =
-    let m = c.in-ok-mouth.mouth in
-    inside (plan_of c.args.self.now.cuts) c.sides-rows.ensures.rules m.row m.col c.args.node c.sides-rows.result c.in-ok-mouth.ensures.0 c.sides-rows.ensures.value
+pub on_edge-requires : goal.on_edge-requires
+on_edge-requires g c =
+    let m = c.in_ok-mouth.mouth in
+    inside (plan_of c.args.self.now.cuts) c.sides-rows.ensures.rules m.row m.col c.args.node c.sides-rows.result c.in_ok-mouth.ensures.0 c.sides-rows.ensures.value
 
 -- a mouth has a record
 recorded : (p : Plan) → Lawful p → (i j a m : ℕ) → mouth_number p i j ≡ Some a → mouths p ≤ m → a < m
 recorded p law i j a m e h = omega (arith, ((numbered p law).interval i j a e).3)
 
-pub offset-bounds-mouths-node : goal.offset-bounds-mouths-node
-offset-bounds-mouths-node g c =
+pub offset_bounds-mouths-node : goal.offset_bounds-mouths-node
+offset_bounds-mouths-node g c =
     let s = c.args.self.now in
-    let m = c.in-ok-mouth.mouth in
-    let h = recorded (plan_of s.cuts) c.sides-rows.ensures.rules m.row m.col c.args.node (length s.mouths.now) c.in-ok-mouth.ensures.0 s.marked in
+    let m = c.in_ok-mouth.mouth in
+    let h = recorded (plan_of s.cuts) c.sides-rows.ensures.rules m.row m.col c.args.node (length s.mouths.now) c.in_ok-mouth.ensures.0 s.marked in
     omega (arith, h)
 
 pub bounds-mouths-node : goal.bounds-mouths-node
 bounds-mouths-node g c =
     let s = c.args.self.now in
-    let m = c.in-ok-mouth.mouth in
-    recorded (plan_of s.cuts) c.sides-rows.ensures.rules m.row m.col c.args.node (length s.mouths.now) c.in-ok-mouth.ensures.0 s.marked
+    let m = c.in_ok-mouth.mouth in
+    recorded (plan_of s.cuts) c.sides-rows.ensures.rules m.row m.col c.args.node (length s.mouths.now) c.in_ok-mouth.ensures.0 s.marked
 
-pub bounds-mouths-node-then-on-edge : goal.bounds-mouths-node-then-on-edge
-bounds-mouths-node-then-on-edge g c = bounds-mouths-node g c
+pub bounds-mouths-node-then-on_edge : goal.bounds-mouths-node-then-on_edge
+bounds-mouths-node-then-on_edge g c = bounds-mouths-node g c
 
 -- whether the cell lies on the sheet's edge
 edge : (p : Plan) (s : ℕ × ℕ) (b : Bool) (i j : ℕ) → s ≡ (p.rows, p.cols) → b ≡ at_edge s.0 s.1 i j → b ≡ at_edge p.rows p.cols i j
 edge p s b i j is e = e ∙ ap₂ (λ x y. at_edge x y i j) (ap (λ z. z.0) is) (ap (λ z. z.1) is)
 
-pub returns-then-on-edge : goal.returns-then-on-edge
-returns-then-on-edge g c =
+pub returns-then-on_edge : goal.returns-then-on_edge
+returns-then-on_edge g c =
     let s = c.args.self.now in
     let p = plan_of s.cuts in
-    let m = c.in-ok-mouth.mouth in
-    let e = c.in-ok-mouth.ensures.0 in
+    let m = c.in_ok-mouth.mouth in
+    let e = c.in_ok-mouth.ensures.0 in
     let law = c.sides-rows.ensures.rules in
     let κ = kind_of g.M.Order g.row.M-Mark in
     ap Some (ap (λ r. r.mark) (sym c.index-mouths-node.is) ∙ mark_read κ.void s.mouths.now c.args.node c.args.node c.index-mouths-node.result refl (recorded p law m.row m.col c.args.node (length s.mouths.now) e s.marked) c.index-mouths-node.is)
-    ∙ sym (drain_read κ p (tables s.mouths.now s.passes.now) law c.args.node m.row m.col true e (edge p c.sides-rows.result true m.row m.col c.sides-rows.ensures.value c.if-on-edge.ensures))
+    ∙ sym (drain_read κ p (tables s.mouths.now s.passes.now) law c.args.node m.row m.col true e (edge p c.sides-rows.result true m.row m.col c.sides-rows.ensures.value c.if-on_edge.ensures))
 
-pub returns-else-on-edge : goal.returns-else-on-edge
-returns-else-on-edge g c =
+pub returns-else-on_edge : goal.returns-else-on_edge
+returns-else-on_edge g c =
     let s = c.args.self.now in
     let p = plan_of s.cuts in
-    let m = c.in-ok-mouth.mouth in
+    let m = c.in_ok-mouth.mouth in
     let κ = kind_of g.M.Order g.row.M-Mark in
-    sym (drain_read κ p (tables s.mouths.now s.passes.now) c.sides-rows.ensures.rules c.args.node m.row m.col false c.in-ok-mouth.ensures.0 (edge p c.sides-rows.result false m.row m.col c.sides-rows.ensures.value c.if-on-edge.ensures))
+    sym (drain_read κ p (tables s.mouths.now s.passes.now) c.sides-rows.ensures.rules c.args.node m.row m.col false c.in_ok-mouth.ensures.0 (edge p c.sides-rows.result false m.row m.col c.sides-rows.ensures.value c.if-on_edge.ensures))

@@ -15,10 +15,10 @@ neighbour-requires g c =
     let p = place_in s.rows s.cols c.args.node (omega (arith, s.long)) in
     record { cell = p; sides = (s.rows_side, s.cols_side) }
 
-pub returns-in-err-far : goal.returns-in-err-far
-returns-in-err-far g c =
+pub returns-in_err-far : goal.returns-in_err-far
+returns-in_err-far g c =
     let s = c.args.self.now in
-    c.from-residual.ensures ∙ sym (crossing_past _ _ s.rows s.cols _ c.args.node c.args.place (omega (arith, s.long)) c.in-err-far.ensures)
+    c.from-residual.ensures ∙ sym (crossing_past _ _ s.rows s.cols _ c.args.node c.args.place (omega (arith, s.long)) c.in_err-far.ensures)
 
 inside : (rows cols node place n far : ℕ) → n ≡ rows * cols → node < n → place < degree rows cols (node / cols) (node % cols) → far ≡ node_of cols (neighbour cols (node / cols) (node % cols) place) → far < n
 inside rows cols node place n far long lt in_List is =
@@ -26,11 +26,11 @@ inside rows cols node place n far long lt in_List is =
     let t = neighbour_touches rows cols (node / cols) (node % cols) p.0 p.1 place in_List in
     omega (arith, node_in rows cols (neighbour cols (node / cols) (node % cols) place) t.0)
 
-pub level-between-level-requires : goal.level-between-level-requires
-level-between-level-requires g c =
+pub level_between-level-requires : goal.level_between-level-requires
+level_between-level-requires g c =
     let s = c.args.self.now in
-    let f = c.in-ok-far.ensures in
-    (c.if-node-marks.false, inside s.rows s.cols c.args.node c.args.place (length s.marks.now) c.in-ok-far.far s.long c.if-node-marks.false f.0 f.1)
+    let f = c.in_ok-far.ensures in
+    (c.if-node-marks.false, inside s.rows s.cols c.args.node c.args.place (length s.marks.now) c.in_ok-far.far s.long c.if-node-marks.false f.0 f.1)
 
 same : {M : Type 0} (level : ℕ → M) (far v : ℕ) (l : M) (r : Option (ℕ × M)) → l ≡ level far → far ≡ v → r ≡ Some (v, level v) → Some (far, l) ≡ r
 same level far v l r is-l is-far e = ap (λ x. Some (far, x)) is-l ∙ ap (λ x. Some (x, level x)) is-far ∙ sym e
@@ -38,6 +38,6 @@ same level far v l r is-l is-far e = ap (λ x. Some (far, x)) is-l ∙ ap (λ x.
 pub returns : goal.returns
 returns g c =
     let s = c.args.self.now in
-    let f = c.in-ok-far.ensures in
-    same (between g.M.Order.leb g.row.M-Mark.lowest s.marks.now c.args.node) _ _ _ _ c.level-between-level.ensures f.1
+    let f = c.in_ok-far.ensures in
+    same (between g.M.Order.leb g.row.M-Mark.lowest s.marks.now c.args.node) _ _ _ _ c.level_between-level.ensures f.1
     (crossing_read g.M.Order.leb g.row.M-Mark.lowest s.rows s.cols s.marks.now c.args.node c.args.place (omega (arith, s.long)) f.0)

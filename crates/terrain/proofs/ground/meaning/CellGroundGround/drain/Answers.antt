@@ -6,16 +6,16 @@ use Rattle.terrain.proofs.ground.meaning.CellGroundGround.drain.Goals as goal
 pub returns-then-node-marks : goal.returns-then-node-marks
 returns-then-node-marks g c = sym (drain_none _ _ c.args.self.now.rows c.args.self.now.cols _ c.args.node (omega (arith, c.args.self.now.long)))
 
-pub on-edge-requires : goal.on-edge-requires
-on-edge-requires g c = place_in c.args.self.now.rows c.args.self.now.cols c.args.node (omega (arith, c.args.self.now.long))
+pub on_edge-requires : goal.on_edge-requires
+on_edge-requires g c = place_in c.args.self.now.rows c.args.self.now.cols c.args.node (omega (arith, c.args.self.now.long))
 
-pub returns-then-on-edge : goal.returns-then-on-edge
-returns-then-on-edge g c =
+pub returns-then-on_edge : goal.returns-then-on_edge
+returns-then-on_edge g c =
     let s = c.args.self.now in
     ap Some (get_or_read s.marks.now c.args.node c.index-marks-node.result c.if-node-marks.false c.index-marks-node.is g.row.M-Mark.lowest)
-    ∙ sym (drain_by g.M.Order.leb g.row.M-Mark.lowest s.rows s.cols s.marks.now c.args.node true (omega (arith, s.long)) (sym c.if-on-edge.ensures))
+    ∙ sym (drain_by g.M.Order.leb g.row.M-Mark.lowest s.rows s.cols s.marks.now c.args.node true (omega (arith, s.long)) (sym c.if-on_edge.ensures))
 
-pub returns-else-on-edge : goal.returns-else-on-edge
-returns-else-on-edge g c =
+pub returns-else-on_edge : goal.returns-else-on_edge
+returns-else-on_edge g c =
     let s = c.args.self.now in
-    sym (drain_by g.M.Order.leb g.row.M-Mark.lowest s.rows s.cols s.marks.now c.args.node false (omega (arith, s.long)) (sym c.if-on-edge.ensures))
+    sym (drain_by g.M.Order.leb g.row.M-Mark.lowest s.rows s.cols s.marks.now c.args.node false (omega (arith, s.long)) (sym c.if-on_edge.ensures))
