@@ -20,11 +20,11 @@ fn start<G: Ground>(
     origins: &mut [Option<usize>],
     queue: &mut Queue<G::Mark>,
 )
-    requires levels { nodes ground.now ≤ length levels.old }
-    requires origins { nodes ground.now ≤ length origins.old }
-    requires queue { Ready G.Mark.Order.leb origins.old queue.old × (waiting queue.old ≡ []) × (queue.old.heap.len ≡ 0) × (nodes ground.now ≤ room queue.old.heap) }
-    ensures rest { (drop (nodes ground.now) levels.new ≡ drop (nodes ground.now) levels.old) × (drop (nodes ground.now) origins.new ≡ drop (nodes ground.now) origins.old) }
-    ensures queue { Roomy G.Mark.Order.leb (nodes ground.now) levels.new origins.new queue.new }
+    requires levels { G.Ground.nodes ground.now ≤ length levels.old }
+    requires origins { G.Ground.nodes ground.now ≤ length origins.old }
+    requires queue { Ready G.Mark.Order.leb origins.old queue.old × (waiting queue.old ≡ []) × (queue.old.heap.len ≡ 0) × (G.Ground.nodes ground.now ≤ room queue.old.heap) }
+    ensures rest { (drop (G.Ground.nodes ground.now) levels.new ≡ drop (G.Ground.nodes ground.now) levels.old) × (drop (G.Ground.nodes ground.now) origins.new ≡ drop (G.Ground.nodes ground.now) origins.old) }
+    ensures queue { Roomy G.Mark.Order.leb (G.Ground.nodes ground.now) levels.new origins.new queue.new }
     ensures state { Going (graph_of G.Mark.Order G.Ground ground.now) levels.new origins.new (waiting queue.new) }
 {
     for node in 0..ground.nodes() {
@@ -54,14 +54,14 @@ fn cross<G: Ground>(
     from: Entry<G::Mark>,
     place: usize,
 ) -> bool
-    requires levels { nodes ground.now ≤ length levels.old }
-    requires origins { nodes ground.now ≤ length origins.old }
-    requires queue { Roomy G.Mark.Order.leb (nodes ground.now) levels.old origins.old queue.old }
+    requires levels { G.Ground.nodes ground.now ≤ length levels.old }
+    requires origins { G.Ground.nodes ground.now ≤ length origins.old }
+    requires queue { Roomy G.Mark.Order.leb (G.Ground.nodes ground.now) levels.old origins.old queue.old }
     requires state { Spreading (graph_of G.Mark.Order G.Ground ground.now) from place levels.old origins.old (waiting queue.old) }
-    ensures rest { (drop (nodes ground.now) levels.new ≡ drop (nodes ground.now) levels.old) × (drop (nodes ground.now) origins.new ≡ drop (nodes ground.now) origins.old) }
-    ensures done { ((result ≡ true → place < length (crossings ground.now from.node))) × ((result ≡ false → length (crossings ground.now from.node) ≤ place)) }
-    ensures count { queue.new.heap.len + missing (nodes ground.now) levels.new ≡ queue.old.heap.len + missing (nodes ground.now) levels.old }
-    ensures queue { Roomy G.Mark.Order.leb (nodes ground.now) levels.new origins.new queue.new }
+    ensures rest { (drop (G.Ground.nodes ground.now) levels.new ≡ drop (G.Ground.nodes ground.now) levels.old) × (drop (G.Ground.nodes ground.now) origins.new ≡ drop (G.Ground.nodes ground.now) origins.old) }
+    ensures done { ((result ≡ true → place < length (G.Ground.crossings ground.now from.node))) × ((result ≡ false → length (G.Ground.crossings ground.now from.node) ≤ place)) }
+    ensures count { queue.new.heap.len + missing (G.Ground.nodes ground.now) levels.new ≡ queue.old.heap.len + missing (G.Ground.nodes ground.now) levels.old }
+    ensures queue { Roomy G.Mark.Order.leb (G.Ground.nodes ground.now) levels.new origins.new queue.new }
     ensures state { Spreading (graph_of G.Mark.Order G.Ground ground.now) from (onward result place) levels.new origins.new (waiting queue.new) }
 {
     let Some(crossing) = ground.crossing(from.node, place) else {
@@ -108,13 +108,13 @@ fn spread<G: Ground>(
     queue: &mut Queue<G::Mark>,
     from: Entry<G::Mark>,
 )
-    requires levels { nodes ground.now ≤ length levels.old }
-    requires origins { nodes ground.now ≤ length origins.old }
-    requires queue { Roomy G.Mark.Order.leb (nodes ground.now) levels.old origins.old queue.old }
+    requires levels { G.Ground.nodes ground.now ≤ length levels.old }
+    requires origins { G.Ground.nodes ground.now ≤ length origins.old }
+    requires queue { Roomy G.Mark.Order.leb (G.Ground.nodes ground.now) levels.old origins.old queue.old }
     requires state { Spreading (graph_of G.Mark.Order G.Ground ground.now) from 0 levels.old origins.old (waiting queue.old) }
-    ensures rest { (drop (nodes ground.now) levels.new ≡ drop (nodes ground.now) levels.old) × (drop (nodes ground.now) origins.new ≡ drop (nodes ground.now) origins.old) }
-    ensures count { queue.new.heap.len + missing (nodes ground.now) levels.new ≡ queue.old.heap.len + missing (nodes ground.now) levels.old }
-    ensures queue { Roomy G.Mark.Order.leb (nodes ground.now) levels.new origins.new queue.new }
+    ensures rest { (drop (G.Ground.nodes ground.now) levels.new ≡ drop (G.Ground.nodes ground.now) levels.old) × (drop (G.Ground.nodes ground.now) origins.new ≡ drop (G.Ground.nodes ground.now) origins.old) }
+    ensures count { queue.new.heap.len + missing (G.Ground.nodes ground.now) levels.new ≡ queue.old.heap.len + missing (G.Ground.nodes ground.now) levels.old }
+    ensures queue { Roomy G.Mark.Order.leb (G.Ground.nodes ground.now) levels.new origins.new queue.new }
     ensures state { Going (graph_of G.Mark.Order G.Ground ground.now) levels.new origins.new (waiting queue.new) }
 {
     let mut place = 0;
@@ -130,10 +130,10 @@ fn run<G: Ground>(
     origins: &mut [Option<usize>],
     slots: &mut [Entry<G::Mark>],
 )
-    requires levels { nodes ground.now ≤ length levels.old }
-    requires origins { nodes ground.now ≤ length origins.old }
-    requires slots { nodes ground.now ≤ length slots.old }
-    ensures rest { (drop (nodes ground.now) levels.new ≡ drop (nodes ground.now) levels.old) × (drop (nodes ground.now) origins.new ≡ drop (nodes ground.now) origins.old) }
+    requires levels { G.Ground.nodes ground.now ≤ length levels.old }
+    requires origins { G.Ground.nodes ground.now ≤ length origins.old }
+    requires slots { G.Ground.nodes ground.now ≤ length slots.old }
+    ensures rest { (drop (G.Ground.nodes ground.now) levels.new ≡ drop (G.Ground.nodes ground.now) levels.old) × (drop (G.Ground.nodes ground.now) origins.new ≡ drop (G.Ground.nodes ground.now) origins.old) }
     ensures found { Flooded (graph_of G.Mark.Order G.Ground ground.now) levels.new origins.new }
 {
     let mut queue = Queue::new(slots);
@@ -151,7 +151,7 @@ pub fn flood<G: Ground>(
     origins: &mut [Option<usize>],
     slots: &mut [Entry<G::Mark>],
 ) -> Result<(), Refusal>
-    ensures told { told result ≡ checked ((short (nodes ground.now) levels.old origins.old slots.old, 5) ∷ []) tt }
+    ensures told { told result ≡ checked ((short (G.Ground.nodes ground.now) levels.old origins.old slots.old, 5) ∷ []) tt }
     ensures leaves { Leaves (graph_of G.Mark.Order G.Ground ground.now) result levels.new levels.old origins.new origins.old slots.new slots.old }
 {
     let count = ground.nodes();

@@ -21,7 +21,7 @@ slice_bounds-new-end g c =
 
 pub returns-in_err-source : goal.returns-in_err-source
 returns-in_err-source g c =
-    let p = err_from_is_err_and c.from-residual-in_err-source.result c.from-residual-in_err-source.ensures.1 in
+    let p = err_from_is_err_and c.from_residual-in_err-source.result c.from_residual-in_err-source.ensures.1 in
     rw (p.1, p.2)
     (⊎_elim
     (λ k. inl (λ i. refused (k.0 i) (k.1 i)))

@@ -29,7 +29,7 @@ loop-i-preserved g c =
 pub returns-in_err-read : goal.returns-in_err-read
 returns-in_err-read g c =
     let m = g.S.Sheet.meaning c.args.sheet.now in
-    let p = err_from_is_err_and c.from-residual.result c.from-residual.ensures.1 in
+    let p = err_from_is_err_and c.from_residual.result c.from_residual.ensures.1 in
     rw (p.1, p.2) (record { told = dead_told m c.loop-i.i (length c.loop-i.run) (c.loop-i.auto.run ∙ c.requires) (omega (arith, c.sides-rows.ensures.rows)) _ _ _ c.in_err-read.ensures.told; small = tt })
 
 pub returns : goal.returns

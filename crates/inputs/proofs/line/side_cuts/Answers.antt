@@ -5,7 +5,7 @@ use Rattle.inputs.proofs.line.side_cuts.Goals as goal
 
 pub returns-in_err-more : goal.returns-in_err-more
 returns-in_err-more c =
-    let p = err_from_is_err_and c.from-residual.result c.from-residual.ensures.1 in
+    let p = err_from_is_err_and c.from_residual.result c.from_residual.ensures.1 in
     rw (p.1, p.2) (first_lost c.args.bytes.now c.args.from c.requires _ c.in_err-more.ensures)
 
 pub loop-more-init : goal.loop-more-init
@@ -13,7 +13,7 @@ loop-more-init c = listed_none c.args.bytes.now c.args.from c.requires _ c.in_ok
 
 pub returns-in_err-step : goal.returns-in_err-step
 returns-in_err-step c =
-    let p = err_from_is_err_and c.from-residual-in_err-step.result c.from-residual-in_err-step.ensures.1 in
+    let p = err_from_is_err_and c.from_residual-in_err-step.result c.from_residual-in_err-step.ensures.1 in
     let s = subst (λ v. Listed c.args.bytes.now c.args.from c.loop-more.places c.loop-more.count v c.loop-more.at) c.loop-more-test.true c.loop-more.invariant in
     rw (p.1, p.2) (cut_not_there _ _ _ c.loop-more.count c.loop-more.at s _ c.in_err-step.ensures)
 

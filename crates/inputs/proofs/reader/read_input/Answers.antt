@@ -10,7 +10,7 @@ laws g = let m = g.met.M.CodedMark in record { one = g.M.Mark.lowest; distinct =
 
 pub returns-in_err-head : goal.returns-in_err-head
 returns-in_err-head g c =
-    let p = err_from_is_err_and c.from-residual.result c.from-residual.ensures.1 in
+    let p = err_from_is_err_and c.from_residual.result c.from_residual.ensures.1 in
     rw (p.1, p.2) (sheet_lost _ _ (laws g) _ _ c.in_err-head.ensures)
 
 pub cut_line-requires : goal.cut_line-requires
@@ -18,7 +18,7 @@ cut_line-requires g c = let h = c.in_ok-head.ensures in (line_going _ _ (laws g)
 
 pub returns-in_err-cuts : goal.returns-in_err-cuts
 returns-in_err-cuts g c =
-    let p = err_from_is_err_and c.from-residual-in_err-cuts.result c.from-residual-in_err-cuts.ensures.1 in
+    let p = err_from_is_err_and c.from_residual-in_err-cuts.result c.from_residual-in_err-cuts.ensures.1 in
     let h = c.in_ok-head.ensures in
     rw (p.1, p.2) (line_lost _ _ (laws g) _ h.0 _ h.1 _ c.in_err-cuts.ensures)
 

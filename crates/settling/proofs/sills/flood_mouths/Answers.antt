@@ -19,7 +19,7 @@ told_past p p' m q ls os hs t same e f =
 
 pub returns-in_err-ground : goal.returns-in_err-ground
 returns-in_err-ground g c =
-    let p = err_from_is_err_and c.from-residual.result c.from-residual.ensures.1 in
+    let p = err_from_is_err_and c.from_residual.result c.from_residual.ensures.1 in
     rw (p.1, p.2) (record {
       told = still_refused (tables_short (plan_of c.args.cuts.now) (length c.args.mouths.now) (length c.args.passes.now)) _ _ 4 ((short (mouths (plan_of c.args.cuts.now)) c.args.levels.now c.args.origins.now c.args.heap.now, 5) ∷ []) _ tt c.in_err-ground.ensures.told;
       leaves = (refl, refl, refl);

@@ -51,7 +51,7 @@ settled κ p w ls os n ms is f k = record {
 
 pub returns-in_err-flood_mouths : goal.returns-in_err-flood_mouths
 returns-in_err-flood_mouths g c =
-    let p = err_from_is_err_and c.from-residual.result c.from-residual.ensures.1 in
+    let p = err_from_is_err_and c.from_residual.result c.from_residual.ensures.1 in
     let left = c.in_err-flood_mouths.ensures.leaves in
     rw (p.1, p.2) (record { told = c.in_err-flood_mouths.ensures.told; leaves = refl; sills = tt; scratch = (left.0, (left.1, left.2)) })
 

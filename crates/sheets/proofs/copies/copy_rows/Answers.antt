@@ -15,7 +15,7 @@ copy_row-requires g c =
     record {
       inside = fits_run m.rows m.cols (from.row + i) from.col _ (omega arith) (omega (arith, c.loop-i.auto.run));
       whole = ap (broken m (from.row + i) from.col) c.loop-i.auto.run ∙ rows_whole m from _ c.args.height c.requires.whole i c.loop-i-test.true;
-      target-inside = fits_run n.rows n.cols (to.row + i) to.col _ (omega (arith, sofar.rows)) (omega (arith, c.loop-i.auto.run, sofar.cols));
+      target_inside = fits_run n.rows n.cols (to.row + i) to.col _ (omega (arith, sofar.rows)) (omega (arith, c.loop-i.auto.run, sofar.cols));
     }
 
 pub loop-i-preserved : goal.loop-i-preserved

@@ -40,7 +40,7 @@ returns-in_err-flood_block g c =
     let m = g.S.Sheet.meaning c.args.source.now in
     let b = c.in_ok-block.block in
     let is = tile_is p t (area_of b) (tile_at p t) c.requires.tile c.in_ok-block.ensures.told in
-    let e = err_from_is_err_and c.from-residual-in_err-flood_block.result c.from-residual-in_err-flood_block.ensures.1 in
+    let e = err_from_is_err_and c.from_residual-in_err-flood_block.result c.from_residual-in_err-flood_block.ensures.1 in
     rw (e.1, e.2) (record {
       told = carried (dead_in m (area_of b)) (dead_in m (tile_at p t)) _ _ 7 [] tt (tile_mouths p t - 1) (λ yes'. sym (ap (dead_in m) is) ∙ yes') c.in_err-flood_block.ensures.told;
       leaves = refl;

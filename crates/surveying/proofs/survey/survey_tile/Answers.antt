@@ -13,7 +13,7 @@ pub returns-in_err-block : goal.returns-in_err-block
 returns-in_err-block g c =
     let p = plan_of c.args.cuts.now in
     let m = g.S.Sheet.meaning c.args.source.now in
-    let e = err_from_is_err_and c.from-residual.result c.from-residual.ensures.1 in
+    let e = err_from_is_err_and c.from_residual.result c.from_residual.ensures.1 in
     rw (e.1, e.2) (record {
       told = tells_tile p m c.args.tile (length c.args.mouths.now) (length c.args.passes.now) c.args.scratch.now _ _ c.in_err-block.ensures.told;
       leaves = refl;

@@ -40,7 +40,7 @@ returns-in_err-read g c =
     let col = c.args.from.col in
     let within : i * w + w ≤ length c.loop-i.marks = omega (arith, row_end c.args.extent.height w i c.loop-i-test.true, c.requires.long, c.loop-i.auto.marks) in
     let long = part_length c.loop-i.marks (i * w) w within in
-    let p = err_from_is_err_and c.from-residual.result c.from-residual.ensures.1 in
+    let p = err_from_is_err_and c.from_residual.result c.from_residual.ensures.1 in
     let inside : outside m row col (length (mid_of (i * w) (i * w + w - i * w) c.loop-i.marks)) ≡ false = fits_run m.rows m.cols row col _ (omega arith) (omega (arith, long)) in
     let told = past _ _ (_ ∷ []) _ _ inside c.in_err-read.ensures.told in
     rw (p.1, p.2) (record {

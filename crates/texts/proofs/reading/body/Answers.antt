@@ -13,7 +13,7 @@ pub loop-left-init : goal.loop-left-init
 loop-left-init g c = (c.requires.from, going_none (body g.M.Spelled.spelled c.args.rows c.args.cols) c.args.from c.args.bytes.now c.requires.from)
 
 pub returns-in_err-at : goal.returns-in_err-at
-returns-in_err-at g c = let p = err_from_is_err_and c.from-residual.result c.from-residual.ensures.1 in rw (p.1, p.2) (body_lost _ (laws g) _ _ _ _ _ _ c.loop-left.invariant.1 (omega arith) _ c.in_err-at.ensures)
+returns-in_err-at g c = let p = err_from_is_err_and c.from_residual.result c.from_residual.ensures.1 in rw (p.1, p.2) (body_lost _ (laws g) _ _ _ _ _ _ c.loop-left.invariant.1 (omega arith) _ c.in_err-at.ensures)
 
 pub loop-left-preserved : goal.loop-left-preserved
 loop-left-preserved g c =

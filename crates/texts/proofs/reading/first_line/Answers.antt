@@ -4,17 +4,17 @@ use Rattle.texts.proofs.Heads.{lost0, lost1, lost2, lost3, lost4, going3, going4
 use Rattle.texts.proofs.reading.first_line.Goals as goal
 
 pub returns-in_err-word : goal.returns-in_err-word
-returns-in_err-word g c = let p = err_from_is_err_and c.from-residual.result c.from-residual.ensures.1 in rw (p.1, p.2) (lost0 _ _ _ c.in_err-word.ensures)
+returns-in_err-word g c = let p = err_from_is_err_and c.from_residual.result c.from_residual.ensures.1 in rw (p.1, p.2) (lost0 _ _ _ c.in_err-word.ensures)
 
 pub returns-in_err-gap : goal.returns-in_err-gap
 returns-in_err-gap g c =
-    let p = err_from_is_err_and c.from-residual-in_err-gap.result c.from-residual-in_err-gap.ensures.1 in
+    let p = err_from_is_err_and c.from_residual-in_err-gap.result c.from_residual-in_err-gap.ensures.1 in
     let h0 = c.in_ok-word.ensures in
     rw (p.1, p.2) (lost1 _ _ _ _ h0.1 _ (lost_word _ _ _ _ _ c.name.ensures c.in_err-gap.ensures))
 
 pub returns-in_err-first : goal.returns-in_err-first
 returns-in_err-first g c =
-    let p = err_from_is_err_and c.from-residual-in_err-first.result c.from-residual-in_err-first.ensures.1 in
+    let p = err_from_is_err_and c.from_residual-in_err-first.result c.from_residual-in_err-first.ensures.1 in
     let h0 = c.in_ok-word.ensures in
     let h1 = c.in_ok-gap.ensures in
     rw (p.1, p.2) (lost2 _ _ _ _ h0.1 _ _ (found_word _ _ _ _ _ _ c.name.ensures h1.1) _ c.in_err-first.ensures)
@@ -28,7 +28,7 @@ side-requires g c =
 
 pub returns-in_err-rows : goal.returns-in_err-rows
 returns-in_err-rows g c =
-    let p = err_from_is_err_and c.from-residual-in_err-rows.result c.from-residual-in_err-rows.ensures.1 in
+    let p = err_from_is_err_and c.from_residual-in_err-rows.result c.from_residual-in_err-rows.ensures.1 in
     let h0 = c.in_ok-word.ensures in
     let h1 = c.in_ok-gap.ensures in
     let h2 = c.in_ok-first.ensures in
@@ -43,7 +43,7 @@ side-requires-2 g c =
 
 pub returns-in_err-cols : goal.returns-in_err-cols
 returns-in_err-cols g c =
-    let p = err_from_is_err_and c.from-residual-in_err-cols.result c.from-residual-in_err-cols.ensures.1 in
+    let p = err_from_is_err_and c.from_residual-in_err-cols.result c.from_residual-in_err-cols.ensures.1 in
     let h0 = c.in_ok-word.ensures in
     let h1 = c.in_ok-gap.ensures in
     let h2 = c.in_ok-first.ensures in

@@ -9,7 +9,7 @@ laws g = let m = g.met.M.CodedMark in record { one = g.M.Mark.lowest; distinct =
 
 pub returns-in_err-head : goal.returns-in_err-head
 returns-in_err-head g c =
-    let p = err_from_is_err_and c.from-residual.result c.from-residual.ensures.1 in
+    let p = err_from_is_err_and c.from_residual.result c.from_residual.ensures.1 in
     rw (p.1, p.2) (head_lost _ _ (laws g) _ _ c.in_err-head.ensures)
 
 pub body-requires : goal.body-requires
@@ -19,7 +19,7 @@ body-requires g c =
 
 pub returns-in_err-end : goal.returns-in_err-end
 returns-in_err-end g c =
-    let p = err_from_is_err_and c.from-residual-in_err-end.result c.from-residual-in_err-end.ensures.1 in
+    let p = err_from_is_err_and c.from_residual-in_err-end.result c.from_residual-in_err-end.ensures.1 in
     rw (p.1, p.2) (rows_lost _ _ (laws g) _ _ _ _ c.in_ok-head.ensures _ c.in_err-end.ensures)
 
 pub returns : goal.returns

@@ -8,7 +8,7 @@ laws : (g : given.Over) → Spelling g.M.Spelled.spelled
 laws g = let m = g.met.M.CodedMark in record { one = g.M.Mark.lowest; distinct = m.distinct; clear = m.clear }
 
 pub returns-in_err-at : goal.returns-in_err-at
-returns-in_err-at g c = let p = err_from_is_err_and c.from-residual.result c.from-residual.ensures.1 in rw (p.1, p.2) (row_none _ (laws g) _ _ _ c.requires.from _ c.in_err-at.ensures)
+returns-in_err-at g c = let p = err_from_is_err_and c.from_residual.result c.from_residual.ensures.1 in rw (p.1, p.2) (row_none _ (laws g) _ _ _ c.requires.from _ c.in_err-at.ensures)
 
 pub loop-left-init : goal.loop-left-init
 loop-left-init g c =
@@ -17,7 +17,7 @@ loop-left-init g c =
     (c.requires.cols, s.within, s)
 
 pub returns-in_err-at-2 : goal.returns-in_err-at-2
-returns-in_err-at-2 g c = let p = err_from_is_err_and c.from-residual-in_err-at-2.result c.from-residual-in_err-at-2.ensures.1 in rw (p.1, p.2) (row_lost _ (laws g) _ _ _ _ _ c.loop-left.invariant.2 c.loop-left-test.true _ c.in_err-at-2.ensures)
+returns-in_err-at-2 g c = let p = err_from_is_err_and c.from_residual-in_err-at-2.result c.from_residual-in_err-at-2.ensures.1 in rw (p.1, p.2) (row_lost _ (laws g) _ _ _ _ _ c.loop-left.invariant.2 c.loop-left-test.true _ c.in_err-at-2.ensures)
 
 pub loop-left-preserved : goal.loop-left-preserved
 loop-left-preserved g c =
@@ -26,7 +26,7 @@ loop-left-preserved g c =
     (omega arith, s.within, s)
 
 pub returns-in_err-last : goal.returns-in_err-last
-returns-in_err-last g c = let p = err_from_is_err_and c.from-residual-in_err-last.result c.from-residual-in_err-last.ensures.1 in rw (p.1, p.2) (last_lost _ (laws g) _ _ _ _ _ c.loop-left.invariant.2 c.loop-left-test.false _ c.in_err-last.ensures)
+returns-in_err-last g c = let p = err_from_is_err_and c.from_residual-in_err-last.result c.from_residual-in_err-last.ensures.1 in rw (p.1, p.2) (last_lost _ (laws g) _ _ _ _ _ c.loop-left.invariant.2 c.loop-left-test.false _ c.in_err-last.ensures)
 
 pub returns : goal.returns
 returns g c =

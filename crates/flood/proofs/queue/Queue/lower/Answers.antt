@@ -9,8 +9,8 @@ use Rattle.flood.proofs.Counts.{some_same, none_some, all_nth, times_found, time
 use Rattle.flood.proofs.Places.{half_placed, single_replaced, single_long, kept_both, kept_times, node_low}
 use Rattle.flood.proofs.queue.Queue.lower.Goals as goal
 
-pub slice-copy-out·known : goal.slice-copy-out·known
-slice-copy-out·known g c =
+pub slice_copy_out-known : goal.slice_copy_out-known
+slice_copy_out-known g c =
     let long = c.keep_places.ensures.kept.long in
     omega (arith, node_low c.args.origins.now (contents c.args.self.now.heap) c.args.x.node c.requires.ready.single c.requires.waits)
 

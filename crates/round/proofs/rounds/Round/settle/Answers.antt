@@ -44,7 +44,7 @@ module _ {M : Type 0} (r : Round) (m q : ℕ) (s : Scratch M) where
 
 pub returns-in_err-decide : goal.returns-in_err-decide
 returns-in_err-decide g c =
-    let p = err_from_is_err_and c.from-residual.result c.from-residual.ensures.1 in
+    let p = err_from_is_err_and c.from_residual.result c.from_residual.ensures.1 in
     rw (p.1, p.2) (record {
       told = by_state c.args.self.now (length c.args.mouths.now) (length c.args.passes.now) c.args.scratch.now _ _ c.in_err-decide.ensures;
       leaves = (refl, refl);

@@ -53,7 +53,7 @@ module _ {M : Type 0} (r : Round) (g : Grid M) (t m q : ℕ) (s : SurveyScratch 
 
 pub returns-in_err-decide : goal.returns-in_err-decide
 returns-in_err-decide g c =
-    let p = err_from_is_err_and c.from-residual.result c.from-residual.ensures.1 in
+    let p = err_from_is_err_and c.from_residual.result c.from_residual.ensures.1 in
     rw (p.1, p.2) (record {
       told = by_state c.args.self.now (g.S.Sheet.meaning c.args.source.now) c.args.tile (length c.args.mouths.now) (length c.args.passes.now) c.args.scratch.now _ _ c.in_err-decide.ensures;
       leaves = (refl, refl);
@@ -63,7 +63,7 @@ returns-in_err-decide g c =
 
 pub returns-in_err-count : goal.returns-in_err-count
 returns-in_err-count g c =
-    let p = err_from_is_err_and c.from-residual-in_err-count.result c.from-residual-in_err-count.ensures.1 in
+    let p = err_from_is_err_and c.from_residual-in_err-count.result c.from_residual-in_err-count.ensures.1 in
     let e = c.in_err-count.ensures in
     rw (p.1, p.2) (record {
       told = by_tile c.args.self.now (g.S.Sheet.meaning c.args.source.now) c.args.tile (length c.args.mouths.now) (length c.args.passes.now) c.args.scratch.now _ c.in_ok-decide.ensures e.told;

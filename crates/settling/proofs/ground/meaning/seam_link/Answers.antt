@@ -36,7 +36,7 @@ pub returns-in_err-cell : goal.returns-in_err-cell
 returns-in_err-cell g c =
     let p = plan_of c.args.cuts.now in
     let m = c.args.mouth in
-    c.from-residual.ensures
+    c.from_residual.ensures
     ∙ sym (seam_outside (kind_of g.M.Order g.row.M-Mark) p c.sides-rows.ensures.rules c.args.mouths.now c.args.node c.args.k m.row m.col c.requires.here.number
     (looked p c.sides-rows.result (place m.row m.col) c.args.k None c.around.result c.sides-rows.ensures.value c.around.ensures c.in_err-cell.was))
 
@@ -67,7 +67,7 @@ returns-in_err-far g c =
     let s = c.in_ok-spot.spot in
     let κ = kind_of g.M.Order g.row.M-Mark in
     let ms = c.args.mouths.now in
-    c.from-residual-in_err-far.ensures
+    c.from_residual-in_err-far.ensures
     ∙ sym (seam_over κ p c.sides-rows.ensures.rules ms c.args.node c.args.k m.row m.col c.requires.here.number d
     (looked p c.sides-rows.result (place m.row m.col) c.args.k (Some d) c.around.result c.sides-rows.ensures.value c.around.ensures c.in_ok-cell.was)
     s (sym c.spot.ensures ∙ c.in_ok-spot.was) (λ e. c.if-spot-mouth.false (e ∙ sym c.requires.here.tile))

@@ -7,7 +7,7 @@ use Rattle.sheets.proofs.raster.RasterWritableSheet.write.Goals as goal
 pub offset_bounds-self-from : goal.offset_bounds-self-from
 offset_bounds-self-from g c =
     let s = c.args.self.now in
-    let h : c.in_ok-from.from + c.loop-k.k < length c.loop-k.self.cells.now = omega (arith, s.long, (started s.rows s.cols c.args.row c.args.col (length c.args.marks.now) _ c.in_ok-from.ensures).ends, c.loop-k.invariant.2.long) in
+    let h : c.in_ok-from.from + c.loop-k.k < length s.cells.now = omega (arith, s.long, (started s.rows s.cols c.args.row c.args.col (length c.args.marks.now) _ c.in_ok-from.ensures).ends, c.loop-k.invariant.2.long) in
     search rules
 
 pub bounds-self-from : goal.bounds-self-from

@@ -7,7 +7,7 @@ use Rattle.tiles.proofs.cuts.CutList.mouth.Goals as goal
 pub returns-in_err-row : goal.returns-in_err-row
 returns-in_err-row c =
     let there = mouth_there (plan_of c.args.self.now) _ _ _ _ _ c.in_ok-j.ensures c.block.ensures in
-    rw c.from-residual-in_err-row.ensures (absurd (omega (arith, there, c.in_err-row.ensures)))
+    rw c.from_residual-in_err-row.ensures (absurd (omega (arith, there, c.in_err-row.ensures)))
 
 pub overflow_add-result : goal.overflow_add-result
 overflow_add-result c =

@@ -18,7 +18,7 @@ mouths_before-requires c =
 
 pub returns-in_err-index : goal.returns-in_err-index
 returns-in_err-index c =
-    c.from-residual.ensures
+    c.from_residual.ensures
     ∙ number_here (plan_of c.args.self.now) c.args.row c.args.col _ _ _ None c.band_of-i.ensures c.band_of-j.ensures c.block.ensures c.in_err-index.ensures
 
 pub returns : goal.returns

@@ -29,7 +29,7 @@ in_passes κ p w law i j a t place left o e is-t far is =
 pub returns-in_err-mouth : goal.returns-in_err-mouth
 returns-in_err-mouth g c =
     let s = c.args.self.now in
-    c.from-residual.ensures
+    c.from_residual.ensures
     ∙ sym (ap (λ xs. slice_get xs c.args.place) (unlisted (kind_of g.M.Order g.row.M-Mark) (plan_of s.cuts) (tables s.mouths.now s.passes.now) (lawful_plan s.cuts) c.args.node c.in_err-mouth.ensures))
 
 pub nth_pass-requires : goal.nth_pass-requires

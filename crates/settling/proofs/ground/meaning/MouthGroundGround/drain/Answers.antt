@@ -20,7 +20,7 @@ pub returns-in_err-mouth : goal.returns-in_err-mouth
 returns-in_err-mouth g c =
     let s = c.args.self.now in
     let p = plan_of s.cuts in
-    c.from-residual.ensures ∙ sym (drain_none (kind_of g.M.Order g.row.M-Mark) p (tables s.mouths.now s.passes.now) (lawful_plan s.cuts) c.args.node c.in_err-mouth.ensures)
+    c.from_residual.ensures ∙ sym (drain_none (kind_of g.M.Order g.row.M-Mark) p (tables s.mouths.now s.passes.now) (lawful_plan s.cuts) c.args.node c.in_err-mouth.ensures)
 
 pub on_edge-requires : goal.on_edge-requires
 on_edge-requires g c =

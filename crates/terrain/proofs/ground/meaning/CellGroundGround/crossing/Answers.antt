@@ -18,7 +18,7 @@ neighbour-requires g c =
 pub returns-in_err-far : goal.returns-in_err-far
 returns-in_err-far g c =
     let s = c.args.self.now in
-    c.from-residual.ensures ∙ sym (crossing_past _ _ s.rows s.cols _ c.args.node c.args.place (omega (arith, s.long)) c.in_err-far.ensures)
+    c.from_residual.ensures ∙ sym (crossing_past _ _ s.rows s.cols _ c.args.node c.args.place (omega (arith, s.long)) c.in_err-far.ensures)
 
 inside : (rows cols node place n far : ℕ) → n ≡ rows * cols → node < n → place < degree rows cols (node / cols) (node % cols) → far ≡ node_of cols (neighbour cols (node / cols) (node % cols) place) → far < n
 inside rows cols node place n far long lt in_List is =
