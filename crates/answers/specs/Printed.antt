@@ -1,7 +1,6 @@
 -- What is printed for a sheet. Assumes nothing.
 use Rattle.std.specs.Prelude.{◌≡◌, ℕ, List, [], ◌∷◌, ◌++◌, codes, decimal}
 use Rattle.marks.specs.declared.order.Order as order
-use Rattle.marks.specs.declared.kind.Mark as kind
 use Rattle.marks.specs.declared.kind.Spelled as spelling
 use Rattle.sheets.specs.Grids.{Grid}
 use Rattle.terrain.specs.Terrains.{Kind, kind_of}
@@ -15,8 +14,8 @@ pub record Coded (M : Type 0) : Type 0 where
   pub spelled : M → List ℕ
 
 -- those of a type of marks
-abbrev pub coded_of : {M : Type 0} → order.Ghosts M → kind.Ghosts M → spelling.Ghosts M → Coded M
-coded_of o k s = record { kind = kind_of o k; word = s.named; spelled = s.spelled }
+abbrev pub coded_of : {M : Type 0} → order.Ghosts M → M → spelling.Ghosts M → Coded M
+coded_of o void s = record { kind = kind_of o void; word = s.named; spelled = s.spelled }
 
 -- the last line: how many cells rose
 abbrev pub raised_line : ℕ → List ℕ

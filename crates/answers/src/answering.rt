@@ -38,7 +38,7 @@ fn check_cuts(input: &Input) -> Result<(), Refusal>
 // The answer to an input of a kind.
 fn answer_input<M: CodedMark>(heap: Global, bytes: &[u8], input: Input) -> Result<Vec<u8>, Refusal>
     requires { ReadsInput M.Spelled.named M.Spelled.spelled bytes.now (Ok input) }
-    ensures { (answered vec_items (told result) ≡ refused 27 0) ⊎ AnsweredAs (coded_of M.Order M.Mark M.Spelled) bytes.now (answered vec_items (told result)) }
+    ensures { (answered vec_items (told result) ≡ refused 27 0) ⊎ AnsweredAs (coded_of M.Order M.Mark.lowest M.Spelled) bytes.now (answered vec_items (told result)) }
 {
     if input.rows * input.cols > MOST_CELLS {
         return Err(Refusal::Size);

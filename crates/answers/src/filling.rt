@@ -27,8 +27,8 @@ fn fill_with<S: Sheet, T: WritableSheet<Mark = S::Mark>>(
     requires levels { size (S.Sheet.meaning source.now) ≤ length levels.old }
     requires origins { size (S.Sheet.meaning source.now) ≤ length origins.old }
     requires heap { size (S.Sheet.meaning source.now) ≤ length heap.old }
-    ensures told { told result ≡ checked ((other_sides (S.Sheet.meaning source.now) (T.Sheet.meaning target.old), 6) ∷ (dead_in (S.Sheet.meaning source.now), 7) ∷ []) (raised (kind_of S.Mark.Order S.Mark.Mark) (S.Sheet.meaning source.now) (T.Sheet.meaning target.new)) }
-    ensures leaves { FillLeaves (kind_of S.Mark.Order S.Mark.Mark) (S.Sheet.meaning source.now) (T.Sheet.meaning target.old) (T.Sheet.meaning target.new) result }
+    ensures told { told result ≡ checked ((other_sides (S.Sheet.meaning source.now) (T.Sheet.meaning target.old), 6) ∷ (dead_in (S.Sheet.meaning source.now), 7) ∷ []) (raised (kind_of S.Mark.Order S.Mark.Mark.lowest) (S.Sheet.meaning source.now) (T.Sheet.meaning target.new)) }
+    ensures leaves { FillLeaves (kind_of S.Mark.Order S.Mark.Mark.lowest) (S.Sheet.meaning source.now) (T.Sheet.meaning target.old) (T.Sheet.meaning target.new) result }
 {
     let mut scratch = Scratch {
         marks,
@@ -57,7 +57,7 @@ fn print_with<M: CodedMark, S: Sheet<Mark = M>>(
     requires origins { size (S.Sheet.meaning source.now) ≤ length origins.old }
     requires entries { size (S.Sheet.meaning source.now) ≤ length entries.old }
     requires row { (S.Sheet.meaning source.now).cols ≤ length row.old }
-    ensures { MatchResult result (λ v. Printed (coded_of M.Order M.Mark M.Spelled) (S.Sheet.meaning source.now) v.items) (λ e. e ≡ NoMemory) }
+    ensures { MatchResult result (λ v. Printed (coded_of M.Order M.Mark.lowest M.Spelled) (S.Sheet.meaning source.now) v.items) (λ e. e ≡ NoMemory) }
 {
     let (rows, cols) = source.sides();
     let mut target = Raster::new(rows, cols, cells)?;
@@ -73,7 +73,7 @@ pub(crate) fn print_sheet<M: CodedMark, S: Sheet<Mark = M>>(
     source: &S,
 ) -> Result<Vec<u8>, Refusal>
     requires { dead_in (S.Sheet.meaning source.now) ≡ false }
-    ensures { MatchResult result (λ v. Printed (coded_of M.Order M.Mark M.Spelled) (S.Sheet.meaning source.now) v.items) (λ e. e ≡ NoMemory) }
+    ensures { MatchResult result (λ v. Printed (coded_of M.Order M.Mark.lowest M.Spelled) (S.Sheet.meaning source.now) v.items) (λ e. e ≡ NoMemory) }
 {
     let void = M::void();
     let (rows, cols) = source.sides();

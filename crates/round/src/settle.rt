@@ -25,8 +25,8 @@ impl Round {
         scratch: &mut Scratch<M>,
     ) -> Result<(), Refusal>
         ensures told { told result ≡ settle_told self.old (length mouths.old) (length passes.now) scratch.old }
-        ensures leaves { SettleLeaves (kind_of M.Order M.Mark) self.old self.new (tables mouths.old passes.now) (tables mouths.new passes.now) result }
-        ensures sills { SettlesSheets (kind_of M.Order M.Mark) (plan_of self.old.cuts) (tables mouths.old passes.now) (tables mouths.new passes.now) result }
+        ensures leaves { SettleLeaves (kind_of M.Order M.Mark.lowest) self.old self.new (tables mouths.old passes.now) (tables mouths.new passes.now) result }
+        ensures sills { SettlesSheets (kind_of M.Order M.Mark.lowest) (plan_of self.old.cuts) (tables mouths.old passes.now) (tables mouths.new passes.now) result }
         ensures scratch { ScratchLeft scratch.old scratch.new result }
         ensures loans { SameLoans scratch.old scratch.new }
     {

@@ -25,7 +25,7 @@ impl Round {
         scratch: &mut SurveyScratch<S::Mark>,
     ) -> Result<usize, Refusal>
         ensures told { told result ≡ survey_told self.old (S.Sheet.meaning source.now) tile (length mouths.old) (length passes.old) scratch.old }
-        ensures leaves { SurveyLeaves (kind_of S.Mark.Order S.Mark.Mark) (S.Sheet.meaning source.now) tile self.old self.new (tables mouths.old passes.old) (tables mouths.new passes.new) result }
+        ensures leaves { SurveyLeaves (kind_of S.Mark.Order S.Mark.Mark.lowest) (S.Sheet.meaning source.now) tile self.old self.new (tables mouths.old passes.old) (tables mouths.new passes.new) result }
         ensures scratch { ScratchLeft scratch.old scratch.new result }
         ensures loans { SameLoans scratch.old scratch.new }
     {

@@ -26,7 +26,7 @@ fn flood_mouths<M: Mark>(
     heap: &mut [Entry<M>],
 ) -> Result<(), Refusal>
     ensures told { told result ≡ sills_told (plan_of cuts.now) (length mouths.now) (length passes.now) levels.old origins.old heap.old }
-    ensures leaves { Leaves (mouth_graph (kind_of M.Order M.Mark) (plan_of cuts.now) (tables mouths.now passes.now)) result levels.new levels.old origins.new origins.old heap.new heap.old }
+    ensures leaves { Leaves (mouth_graph (kind_of M.Order M.Mark.lowest) (plan_of cuts.now) (tables mouths.now passes.now)) result levels.new levels.old origins.new origins.old heap.new heap.old }
 {
     let ground = MouthGround::new(*cuts, mouths, passes)?;
     flood(&ground, levels, origins, heap)
@@ -58,8 +58,8 @@ pub fn settle_mouths<M: Mark>(
     heap: &mut [Entry<M>],
 ) -> Result<(), Refusal>
     ensures told { told result ≡ sills_told (plan_of cuts.now) (length mouths.old) (length passes.now) levels.old origins.old heap.old }
-    ensures leaves { SillsLeft (kind_of M.Order M.Mark) (plan_of cuts.now) (tables mouths.old passes.now) (tables mouths.new passes.now) result }
-    ensures sills { SettlesSheets (kind_of M.Order M.Mark) (plan_of cuts.now) (tables mouths.old passes.now) (tables mouths.new passes.now) result }
+    ensures leaves { SillsLeft (kind_of M.Order M.Mark.lowest) (plan_of cuts.now) (tables mouths.old passes.now) (tables mouths.new passes.now) result }
+    ensures sills { SettlesSheets (kind_of M.Order M.Mark.lowest) (plan_of cuts.now) (tables mouths.old passes.now) (tables mouths.new passes.now) result }
     ensures scratch { (ScratchFree levels.old levels.new result) × ((ScratchFree origins.old origins.new result) × (ScratchFree heap.old heap.new result)) }
 {
     flood_mouths(cuts, mouths, passes, levels, origins, heap)?;

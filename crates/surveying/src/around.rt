@@ -36,11 +36,11 @@ fn look<M: Mark>(
     count: usize,
 ) -> usize
     requires slices { (cells_of (area_of block.now) ≤ length levels.now) × (cells_of (area_of block.now) ≤ length origins.now) × (first + length labels.old < 2 ^ 64) }
-    requires from { Stands (kind_of M.Order M.Mark) (area_of block.now) levels.now origins.now from }
-    requires mouth { MouthIs (kind_of M.Order M.Mark) (area_of block.now) levels.now origins.now from.origin x }
+    requires from { Stands (kind_of M.Order M.Mark.lowest) (area_of block.now) levels.now origins.now from }
+    requires mouth { MouthIs (kind_of M.Order M.Mark.lowest) (area_of block.now) levels.now origins.now from.origin x }
     requires near { Near (area_of block.now) from.node cell }
-    requires turn { SomeTurn (kind_of M.Order M.Mark) (area_of block.now) levels.now origins.now first from cell labels.old passes.old count }
-    ensures { GoesOn (kind_of M.Order M.Mark) (area_of block.now) levels.now origins.now first from cell labels.old passes.old count (cell + 1) labels.new passes.new result }
+    requires turn { SomeTurn (kind_of M.Order M.Mark.lowest) (area_of block.now) levels.now origins.now first from cell labels.old passes.old count }
+    ensures { GoesOn (kind_of M.Order M.Mark.lowest) (area_of block.now) levels.now origins.now first from cell labels.old passes.old count (cell + 1) labels.new passes.new result }
 {
     let known = origins[cell];
     let Some(origin) = known else {
@@ -77,11 +77,11 @@ fn look_along<M: Mark>(
     mut count: usize,
 ) -> usize
     requires slices { (cells_of (area_of block.now) ≤ length levels.now) × (cells_of (area_of block.now) ≤ length origins.now) × (first + length labels.old < 2 ^ 64) }
-    requires from { Stands (kind_of M.Order M.Mark) (area_of block.now) levels.now origins.now from }
-    requires mouth { MouthIs (kind_of M.Order M.Mark) (area_of block.now) levels.now origins.now from.origin x }
+    requires from { Stands (kind_of M.Order M.Mark.lowest) (area_of block.now) levels.now origins.now from }
+    requires mouth { MouthIs (kind_of M.Order M.Mark.lowest) (area_of block.now) levels.now origins.now from.origin x }
     requires near { (start ≤ end) × ((v : ℕ) → start ≤ v → v < end → Near (area_of block.now) from.node v) }
-    requires turn { SomeTurn (kind_of M.Order M.Mark) (area_of block.now) levels.now origins.now first from start labels.old passes.old count }
-    ensures { GoesOn (kind_of M.Order M.Mark) (area_of block.now) levels.now origins.now first from start labels.old passes.old count end labels.new passes.new result }
+    requires turn { SomeTurn (kind_of M.Order M.Mark.lowest) (area_of block.now) levels.now origins.now first from start labels.old passes.old count }
+    ensures { GoesOn (kind_of M.Order M.Mark.lowest) (area_of block.now) levels.now origins.now first from start labels.old passes.old count end labels.new passes.new result }
 {
     for cell in start..end {
         count = look(
@@ -103,9 +103,9 @@ pub(crate) fn look_around<M: Mark>(
     mut count: usize,
 ) -> usize
     requires slices { (cells_of (area_of block.now) ≤ length levels.now) × (cells_of (area_of block.now) ≤ length origins.now) × (first + length labels.old < 2 ^ 64) }
-    requires from { Stands (kind_of M.Order M.Mark) (area_of block.now) levels.now origins.now from }
-    requires turn { SomeTurn (kind_of M.Order M.Mark) (area_of block.now) levels.now origins.now first from 0 labels.old passes.old count }
-    ensures { GoesOn (kind_of M.Order M.Mark) (area_of block.now) levels.now origins.now first from 0 labels.old passes.old count (cells_of (area_of block.now)) labels.new passes.new result }
+    requires from { Stands (kind_of M.Order M.Mark.lowest) (area_of block.now) levels.now origins.now from }
+    requires turn { SomeTurn (kind_of M.Order M.Mark.lowest) (area_of block.now) levels.now origins.now first from 0 labels.old passes.old count }
+    ensures { GoesOn (kind_of M.Order M.Mark.lowest) (area_of block.now) levels.now origins.now first from 0 labels.old passes.old count (cells_of (area_of block.now)) labels.new passes.new result }
 {
     let Some(x) = mouth_of(block, from.origin) else {
         return count;

@@ -29,7 +29,7 @@ pub(crate) fn flood_block<S: Sheet>(
     requires marks { length marks.old ≡ cells_of (area_of block.now) }
     requires room { short (cells_of (area_of block.now)) levels.old origins.old heap.old ≡ false }
     ensures told { told result ≡ checked ((dead_in (S.Sheet.meaning source.now) (area_of block.now), 7) ∷ []) tt }
-    ensures leaves { BlockFlooded (kind_of S.Mark.Order S.Mark.Mark) (S.Sheet.meaning source.now) (area_of block.now) marks.new levels.new origins.new result }
+    ensures leaves { BlockFlooded (kind_of S.Mark.Order S.Mark.Mark.lowest) (S.Sheet.meaning source.now) (area_of block.now) marks.new levels.new origins.new result }
 {
     let corner = Place {
         row: block.top,
@@ -74,7 +74,7 @@ pub(crate) fn keep_marks<M: Mark>(
 )
     requires marks { length marks.now ≡ cells_of (area_of block.now) }
     requires room { first + border (height (area_of block.now)) (width (area_of block.now)) ≤ length mouths.old }
-    ensures { MarksKept (kind_of M.Order M.Mark) (area_of block.now) marks.now first (border (height (area_of block.now)) (width (area_of block.now))) mouths.old mouths.new }
+    ensures { MarksKept (kind_of M.Order M.Mark.lowest) (area_of block.now) marks.now first (border (height (area_of block.now)) (width (area_of block.now))) mouths.old mouths.new }
 {
     for index in 0..block.mouths() {
         keep_mark(block, marks, first, index, mouths);

@@ -24,9 +24,9 @@ fn enter<M: Mark>(
 )
     requires slices { (cells_of (area_of block.now) ≤ length levels.now) × (cells_of (area_of block.now) ≤ length origins.now) × (node < cells_of (area_of block.now)) }
     requires heap { (heap.old.len ≤ node) × (cells_of (area_of block.now) ≤ room heap.old) × Sound (before M.Order.leb) heap.old }
-    requires lined { Lined (kind_of M.Order M.Mark) (area_of block.now) levels.now origins.now node (contents heap.old) }
+    requires lined { Lined (kind_of M.Order M.Mark.lowest) (area_of block.now) levels.now origins.now node (contents heap.old) }
     ensures heap { (heap.new.len ≤ node + 1) × (cells_of (area_of block.now) ≤ room heap.new) × Sound (before M.Order.leb) heap.new }
-    ensures lined { Lined (kind_of M.Order M.Mark) (area_of block.now) levels.now origins.now (node + 1) (contents heap.new) }
+    ensures lined { Lined (kind_of M.Order M.Mark.lowest) (area_of block.now) levels.now origins.now (node + 1) (contents heap.new) }
 {
     let reached = levels[node];
     let Some(level) = reached else {
@@ -54,7 +54,7 @@ fn line_up<M: Mark>(
     requires slices { (cells_of (area_of block.now) ≤ length levels.now) × (cells_of (area_of block.now) ≤ length origins.now) }
     requires heap { (contents heap.old ≡ []) × (heap.old.len ≡ 0) × (cells_of (area_of block.now) ≤ room heap.old) × Sound (before M.Order.leb) heap.old }
     ensures heap { Sound (before M.Order.leb) heap.new }
-    ensures lined { Lined (kind_of M.Order M.Mark) (area_of block.now) levels.now origins.now (cells_of (area_of block.now)) (contents heap.new) }
+    ensures lined { Lined (kind_of M.Order M.Mark.lowest) (area_of block.now) levels.now origins.now (cells_of (area_of block.now)) (contents heap.new) }
 {
     for node in 0..block.height() * block.width() {
         enter(block, levels, origins, node, heap);
@@ -75,8 +75,8 @@ fn link_mouths<M: Mark>(
     requires slices { (cells_of (area_of block.now) ≤ length levels.now) × (cells_of (area_of block.now) ≤ length origins.now) × (cells_of (area_of block.now) ≤ length slots.old) }
     requires labels { (length labels.old ≡ border (height (area_of block.now)) (width (area_of block.now))) × (first + length labels.old < 2 ^ 64) }
     requires passes { length passes.old + 1 ≡ border (height (area_of block.now)) (width (area_of block.now)) }
-    requires flooded { Flooded (kind_of M.Order M.Mark) (area_of block.now) levels.now origins.now }
-    ensures { (C : Flooded (kind_of M.Order M.Mark) (area_of block.now) levels.now origins.now) → Sofar (kind_of M.Order M.Mark) (area_of block.now) levels.now origins.now C first (Besides (kind_of M.Order M.Mark) (area_of block.now) levels.now origins.now []) [] labels.new passes.new result }
+    requires flooded { Flooded (kind_of M.Order M.Mark.lowest) (area_of block.now) levels.now origins.now }
+    ensures { (C : Flooded (kind_of M.Order M.Mark.lowest) (area_of block.now) levels.now origins.now) → Sofar (kind_of M.Order M.Mark.lowest) (area_of block.now) levels.now origins.now C first (Besides (kind_of M.Order M.Mark.lowest) (area_of block.now) levels.now origins.now []) [] labels.new passes.new result }
 {
     unjoin(labels);
     let mut heap = Heap::new(slots);
@@ -102,8 +102,8 @@ pub(crate) fn link_at<M: Mark>(
     requires slices { (cells_of (area_of block.now) ≤ length levels.now) × (cells_of (area_of block.now) ≤ length origins.now) × (cells_of (area_of block.now) ≤ length slots.old) }
     requires labels { (length labels.old ≡ border (height (area_of block.now)) (width (area_of block.now))) × (first + length labels.old < 2 ^ 64) × (1 ≤ length labels.old) }
     requires passes { start + (length labels.old - 1) ≤ length passes.old }
-    requires flooded { Flooded (kind_of M.Order M.Mark) (area_of block.now) levels.now origins.now }
-    ensures { (C : Flooded (kind_of M.Order M.Mark) (area_of block.now) levels.now origins.now) → LinkedAt (kind_of M.Order M.Mark) (area_of block.now) levels.now origins.now C first start passes.old passes.new result }
+    requires flooded { Flooded (kind_of M.Order M.Mark.lowest) (area_of block.now) levels.now origins.now }
+    ensures { (C : Flooded (kind_of M.Order M.Mark.lowest) (area_of block.now) levels.now origins.now) → LinkedAt (kind_of M.Order M.Mark.lowest) (area_of block.now) levels.now origins.now C first start passes.old passes.new result }
 {
     let end = start + (labels.len() - 1);
     link_mouths(

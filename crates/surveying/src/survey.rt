@@ -63,7 +63,7 @@ fn chart<S: Sheet>(
     requires room { short (tile_cells (plan_of cuts.now) tile) levels.old origins.old heap.old ≡ false }
     requires labels { length labels.old ≡ tile_mouths (plan_of cuts.now) tile }
     ensures told { told result ≡ checked ((dead_in (S.Sheet.meaning source.now) (tile_at (plan_of cuts.now) tile), 7) ∷ []) (tile_mouths (plan_of cuts.now) tile - 1) }
-    ensures leaves { SurveyLeaves (kind_of S.Mark.Order S.Mark.Mark) (S.Sheet.meaning source.now) (plan_of cuts.now) tile (tables mouths.old passes.old) (tables mouths.new passes.new) result }
+    ensures leaves { SurveyLeaves (kind_of S.Mark.Order S.Mark.Mark.lowest) (S.Sheet.meaning source.now) (plan_of cuts.now) tile (tables mouths.old passes.old) (tables mouths.new passes.new) result }
 {
     let block = cuts.tile(tile)?;
     let first = cuts.first_mouth(tile)?;
@@ -93,7 +93,7 @@ pub fn survey_tile<S: Sheet>(
     scratch: &mut SurveyScratch<S::Mark>,
 ) -> Result<usize, Refusal>
     ensures told { told result ≡ survey_told (plan_of cuts.now) (S.Sheet.meaning source.now) tile (length mouths.old) (length passes.old) scratch.old }
-    ensures leaves { SurveyLeaves (kind_of S.Mark.Order S.Mark.Mark) (S.Sheet.meaning source.now) (plan_of cuts.now) tile (tables mouths.old passes.old) (tables mouths.new passes.new) result }
+    ensures leaves { SurveyLeaves (kind_of S.Mark.Order S.Mark.Mark.lowest) (S.Sheet.meaning source.now) (plan_of cuts.now) tile (tables mouths.old passes.old) (tables mouths.new passes.new) result }
     ensures scratch { ScratchLeft scratch.old scratch.new result }
     ensures loans { SameLoans scratch.old scratch.new }
 {

@@ -1,7 +1,6 @@
 -- A sheet as a terrain, and what filling it gives. Assumes nothing.
 use Rattle.std.specs.Prelude.{◌≡◌, ℕ, Bool}
 use Rattle.marks.specs.declared.order.Order as order
-use Rattle.marks.specs.declared.kind.Mark as kind
 use Rattle.sheets.specs.Grids.{Cell, mark, dead, Grid}
 use Rattle.terrain.specs.Ways.{Terrain, IsSill}
 use Rattle.sheets.specs.declared.copies.Place.{Place}
@@ -12,9 +11,9 @@ pub record Kind (M : Type 0) : Type 0 where
   pub leb : M → M → Bool
   pub void : M
 
--- the kind of a type of marks
-abbrev pub kind_of : {M : Type 0} → order.Ghosts M → kind.Ghosts M → Kind M
-kind_of o k = record { leb = o.leb; void = k.lowest }
+-- the kind of a type of marks, by its order and its void
+abbrev pub kind_of : {M : Type 0} → order.Ghosts M → M → Kind M
+kind_of o void = record { leb = o.leb; void = void }
 
 -- what stands in a cell of a sheet
 abbrev pub cell_at : {M : Type 0} → Grid M → Place → Cell M

@@ -34,7 +34,7 @@ fn differ<S: Sheet, T: Sheet<Mark = S::Mark>>(source: &S, target: &T) -> bool
 
 // A cell's new mark: void stays, and any other cell gets its level.
 fn filled_mark<M: Mark>(mark: M, level: Option<M>) -> M
-    ensures { result ≡ new_mark (kind_of M.Order M.Mark) mark level }
+    ensures { result ≡ new_mark (kind_of M.Order M.Mark.lowest) mark level }
 {
     match level {
         None => mark,
@@ -58,8 +58,8 @@ fn has_risen<M: Mark>(mark: M, new: M) -> bool
 // Gives each mark that is not void its level, and says how many rose.
 fn raise<M: Mark>(marks: &mut [M], levels: &[Option<M>]) -> usize
     requires { length marks.old ≤ length levels.now }
-    ensures marks { Raised (kind_of M.Order M.Mark) marks.old marks.new levels.now (length marks.old) }
-    ensures count { result ≡ risen (kind_of M.Order M.Mark) marks.old levels.now (length marks.old) }
+    ensures marks { Raised (kind_of M.Order M.Mark.lowest) marks.old marks.new levels.now (length marks.old) }
+    ensures count { result ≡ risen (kind_of M.Order M.Mark.lowest) marks.old levels.now (length marks.old) }
 {
     let mut raised = 0;
     for k in 0..marks.len() {
@@ -86,8 +86,8 @@ fn fill<S: Sheet, T: WritableSheet<Mark = S::Mark>>(
     requires marks { length marks.old ≡ size (S.Sheet.meaning source.now) }
     requires room { short (size (S.Sheet.meaning source.now)) levels.old origins.old heap.old ≡ false }
     ensures loans { T.WritableSheet.loans target.new ≡ T.WritableSheet.loans target.old }
-    ensures told { told result ≡ checked ((dead_in (S.Sheet.meaning source.now), 7) ∷ []) (raised (kind_of S.Mark.Order S.Mark.Mark) (S.Sheet.meaning source.now) (T.Sheet.meaning target.new)) }
-    ensures leaves { FillLeaves (kind_of S.Mark.Order S.Mark.Mark) (S.Sheet.meaning source.now) (T.Sheet.meaning target.old) (T.Sheet.meaning target.new) result }
+    ensures told { told result ≡ checked ((dead_in (S.Sheet.meaning source.now), 7) ∷ []) (raised (kind_of S.Mark.Order S.Mark.Mark.lowest) (S.Sheet.meaning source.now) (T.Sheet.meaning target.new)) }
+    ensures leaves { FillLeaves (kind_of S.Mark.Order S.Mark.Mark.lowest) (S.Sheet.meaning source.now) (T.Sheet.meaning target.old) (T.Sheet.meaning target.new) result }
 {
     let (rows, cols) = source.sides();
     let first = Place { row: 0, col: 0 };
@@ -110,10 +110,10 @@ pub fn fill_sheet<S: Sheet, T: WritableSheet<Mark = S::Mark>>(
     scratch: &mut Scratch<S::Mark>,
 ) -> Result<usize, Refusal>
     ensures loans { (T.WritableSheet.loans target.new ≡ T.WritableSheet.loans target.old) × (SameLoans scratch.old scratch.new) }
-    ensures told { told result ≡ fill_told (kind_of S.Mark.Order S.Mark.Mark) (S.Sheet.meaning source.now) (T.Sheet.meaning target.old) (T.Sheet.meaning target.new) scratch.old }
-    ensures leaves { FillLeaves (kind_of S.Mark.Order S.Mark.Mark) (S.Sheet.meaning source.now) (T.Sheet.meaning target.old) (T.Sheet.meaning target.new) result }
+    ensures told { told result ≡ fill_told (kind_of S.Mark.Order S.Mark.Mark.lowest) (S.Sheet.meaning source.now) (T.Sheet.meaning target.old) (T.Sheet.meaning target.new) scratch.old }
+    ensures leaves { FillLeaves (kind_of S.Mark.Order S.Mark.Mark.lowest) (S.Sheet.meaning source.now) (T.Sheet.meaning target.old) (T.Sheet.meaning target.new) result }
     ensures scratch { ScratchLeft scratch.old scratch.new result }
-    ensures surface { SillsFill (kind_of S.Mark.Order S.Mark.Mark) (S.Sheet.meaning source.now) }
+    ensures surface { SillsFill (kind_of S.Mark.Order S.Mark.Mark.lowest) (S.Sheet.meaning source.now) }
 {
     if differ(source, target) {
         return Err(Refusal::Outside);

@@ -19,8 +19,8 @@ pub fn flood_cells<M: Mark>(
     heap: &mut [Entry<M>],
 ) -> Result<(), Refusal>
     ensures told { told result ≡ levels_told rows cols (length marks.now) levels.old origins.old heap.old }
-    ensures leaves { LevelsLeft (kind_of M.Order M.Mark) rows cols marks.now levels.old levels.new origins.old origins.new heap.old heap.new result }
-    ensures origins { OriginsLeft (kind_of M.Order M.Mark) rows cols marks.now levels.new origins.new result }
+    ensures leaves { LevelsLeft (kind_of M.Order M.Mark.lowest) rows cols marks.now levels.old levels.new origins.old origins.new heap.old heap.new result }
+    ensures origins { OriginsLeft (kind_of M.Order M.Mark.lowest) rows cols marks.now levels.new origins.new result }
 {
     let ground = CellGround::new(rows, cols, marks)?;
     flood(&ground, levels, origins, heap)

@@ -25,11 +25,11 @@ impl<'a, 'b, M: Mark> Ground for MouthGround<'a, 'b, M> {
 
     ghost nodes = { λ s. allMouths (plan_of s.cuts) };
 
-    ghost crossings = { λ s. mouth_crossings (kind_of M.Order M.Mark) (plan_of s.cuts) (tables s.mouths.now s.passes.now) };
+    ghost crossings = { λ s. mouth_crossings (kind_of M.Order M.Mark.lowest) (plan_of s.cuts) (tables s.mouths.now s.passes.now) };
 
-    ghost drain = { λ s. mouth_drain (kind_of M.Order M.Mark) (plan_of s.cuts) (tables s.mouths.now s.passes.now) };
+    ghost drain = { λ s. mouth_drain (kind_of M.Order M.Mark.lowest) (plan_of s.cuts) (tables s.mouths.now s.passes.now) };
 
-    ghost laws = { λ s. mouth_laws (kind_of M.Order M.Mark) (plan_of s.cuts) (tables s.mouths.now s.passes.now) (lawful_plan s.cuts) };
+    ghost laws = { λ s. mouth_laws (kind_of M.Order M.Mark.lowest) (plan_of s.cuts) (tables s.mouths.now s.passes.now) (lawful_plan s.cuts) };
 
     fn nodes(&self) -> usize {
         self.cuts.mouths()
@@ -84,7 +84,7 @@ fn around(rows: usize, cols: usize, row: usize, col: usize, k: usize) -> Option<
 // one by its form.
 fn seam_level<M: Mark>(mouths: &[MouthRecord<M>], node: usize, far: usize) -> M
     requires { (node < length mouths.now) × (far < length mouths.now) }
-    ensures { result ≡ seam_level (kind_of M.Order M.Mark) mouths.now node far }
+    ensures { result ≡ seam_level (kind_of M.Order M.Mark.lowest) mouths.now node far }
 {
     let first = mouths[node.min(far)].mark;
     let second = mouths[node.max(far)].mark;
@@ -102,7 +102,7 @@ fn seam_link<M: Mark>(
     requires room { allMouths (plan_of cuts.now) ≤ length mouths.now }
     requires here { Stands (plan_of cuts.now) node mouth }
     requires k { k < 9 }
-    ensures { result ≡ seam_at (kind_of M.Order M.Mark) (plan_of cuts.now) mouths.now node k }
+    ensures { result ≡ seam_at (kind_of M.Order M.Mark.lowest) (plan_of cuts.now) mouths.now node k }
 {
     let (rows, cols) = cuts.sides();
     let cell = around(rows, cols, mouth.row, mouth.col, k)?;
@@ -124,7 +124,7 @@ fn nth_seam<M: Mark>(
 ) -> Result<(usize, M), usize>
     requires room { allMouths (plan_of cuts.now) ≤ length mouths.now }
     requires here { Stands (plan_of cuts.now) node mouth }
-    ensures { FoundAt (picked (seam_at (kind_of M.Order M.Mark) (plan_of cuts.now) mouths.now node) 0 9) place result }
+    ensures { FoundAt (picked (seam_at (kind_of M.Order M.Mark.lowest) (plan_of cuts.now) mouths.now node) 0 9) place result }
 {
     let mut left = place;
     for k in 0..9 {

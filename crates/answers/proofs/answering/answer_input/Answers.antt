@@ -45,7 +45,7 @@ returns g c =
     let across = cuts_of i.across in
     let t = c.in_ok-source.ensures in
     let same = one_sheet word f (laws g) c.requires.0 h (take (i.end - 0) bs) (is_text word f bs c.requires.0 down across c.requires.1 i.end c.requires.4) t in
-    printed_answer (coded_of g.M.Order g.M.Mark g.M.Spelled) bs h down across
+    printed_answer (coded_of g.M.Order g.M.Mark.lowest g.M.Spelled) bs h down across
     (read_again word f bs c.requires.0 down across c.requires.1 i.end c.requires.4 h t)
     (all_passed c.requires.0 h i.rows i.cols down across same c.requires.2 c.requires.3 c.if-input-gt-MOST_CELLS.false c.in_ok-check_cuts.ensures)
     c.print_sheet.result c.print_sheet.ensures

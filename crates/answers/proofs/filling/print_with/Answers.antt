@@ -38,4 +38,4 @@ returns g c =
     let m = c.in_ok-target.ensures.made in
     let t = c.fill_with.new.target in
     let f = c.in_ok-raised.ensures in
-    is_printed (g.S.Sheet.meaning c.args.source.now) (flat a.rows a.cols a.cells.now) (m.0 ∙ s.rows) (m.1 ∙ s.cols) c.requires.live (coded_of g.M.Order g.M.Mark g.M.Spelled) (flat t.rows t.cols t.cells.now) c.in_ok-raised.raised (vec_items c.in_ok-text.text) (vec_items c.append_raised.new.text) f.told f.leaves c.in_ok-text.ensures c.in_ok-append_raised.ensures
+    is_printed (g.S.Sheet.meaning c.args.source.now) (flat a.rows a.cols a.cells.now) (m.0 ∙ s.rows) (m.1 ∙ s.cols) c.requires.live (coded_of g.M.Order g.M.Mark.lowest g.M.Spelled) (flat t.rows t.cols t.cells.now) c.in_ok-raised.raised (vec_items c.in_ok-text.text) (vec_items c.append_raised.new.text) f.told f.leaves c.in_ok-text.ensures c.in_ok-append_raised.ensures

@@ -28,7 +28,7 @@ returns-in_err-ground g c =
 pub returns : goal.returns
 returns g c =
     let made = c.in_ok-ground.ensures.made in
-    let κ = kind_of g.M.Order g.row.M-Mark in
+    let κ = kind_of g.M.Order g.M.Mark.lowest in
     let p = plan_of c.args.cuts.now in
     let is-plan = ap plan_of made.0 in
     record {

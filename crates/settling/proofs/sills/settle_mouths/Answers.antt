@@ -62,7 +62,7 @@ keep_sills-requires g c =
 
 pub returns : goal.returns
 returns g c =
-    let κ = kind_of g.M.Order g.row.M-Mark in
+    let κ = kind_of g.M.Order g.M.Mark.lowest in
     let p = plan_of c.args.cuts.now in
     let w = tables c.args.mouths.now c.args.passes.now in
     let O : OrderLaws κ.leb = record { total = g.met.M.Order.total; transitive = g.met.M.Order.transitive; antisymmetric = g.met.M.Order.antisymmetric } in

@@ -10,7 +10,7 @@ use Rattle.surveying.proofs.around.look.Goals as goal
 
 pub returns-in_default : goal.returns-in_default
 returns-in_default g c =
-    let κ = kind_of g.M.Order g.M.Mark in
+    let κ = kind_of g.M.Order g.M.Mark.lowest in
     let O : OrderLaws κ.leb = record { total = g.met.M.Order.total; transitive = g.met.M.Order.transitive; antisymmetric = g.met.M.Order.antisymmetric } in
     let r = c.args in
     λ C q T. turn_passes κ O (area_of r.block.now) r.levels.now r.origins.now C q r.first r.from r.cell r.labels.now r.passes.now r.count
@@ -18,7 +18,7 @@ returns-in_default g c =
 
 pub returns-then-origin-from : goal.returns-then-origin-from
 returns-then-origin-from g c =
-    let κ = kind_of g.M.Order g.M.Mark in
+    let κ = kind_of g.M.Order g.M.Mark.lowest in
     let O : OrderLaws κ.leb = record { total = g.met.M.Order.total; transitive = g.met.M.Order.transitive; antisymmetric = g.met.M.Order.antisymmetric } in
     let r = c.args in
     λ C q T. turn_passes κ O (area_of r.block.now) r.levels.now r.origins.now C q r.first r.from r.cell r.labels.now r.passes.now r.count
@@ -26,7 +26,7 @@ returns-then-origin-from g c =
 
 pub returns-in_default-reached : goal.returns-in_default-reached
 returns-in_default-reached g c =
-    let κ = kind_of g.M.Order g.M.Mark in
+    let κ = kind_of g.M.Order g.M.Mark.lowest in
     let O : OrderLaws κ.leb = record { total = g.met.M.Order.total; transitive = g.met.M.Order.transitive; antisymmetric = g.met.M.Order.antisymmetric } in
     let r = c.args in
     let inside : r.cell < length r.levels.now = omega (arith, c.requires.near.inside, c.requires.slices.0) in
@@ -36,7 +36,7 @@ returns-in_default-reached g c =
 
 pub returns-then-not-at_most : goal.returns-then-not-at_most
 returns-then-not-at_most g c =
-    let κ = kind_of g.M.Order g.M.Mark in
+    let κ = kind_of g.M.Order g.M.Mark.lowest in
     let O : OrderLaws κ.leb = record { total = g.met.M.Order.total; transitive = g.met.M.Order.transitive; antisymmetric = g.met.M.Order.antisymmetric } in
     let r = c.args in
     let inside : r.cell < length r.levels.now = omega (arith, c.requires.near.inside, c.requires.slices.0) in
@@ -50,21 +50,21 @@ returns-then-not-at_most g c =
 
 pub mouth_of-requires : goal.mouth_of-requires
 mouth_of-requires g c =
-    let κ = kind_of g.M.Order g.M.Mark in
+    let κ = kind_of g.M.Order g.M.Mark.lowest in
     let O : OrderLaws κ.leb = record { total = g.met.M.Order.total; transitive = g.met.M.Order.transitive; antisymmetric = g.met.M.Order.antisymmetric } in
     let r = c.args in
     origin_in_lem κ O (area_of r.block.now) r.levels.now r.origins.now c.requires.turn.0 r.cell c.in-Some.origin c.requires.near.inside c.in-Some.is
 
 pub returns-in_default-mouth_of : goal.returns-in_default-mouth_of
 returns-in_default-mouth_of g c =
-    let κ = kind_of g.M.Order g.M.Mark in
+    let κ = kind_of g.M.Order g.M.Mark.lowest in
     let O : OrderLaws κ.leb = record { total = g.met.M.Order.total; transitive = g.met.M.Order.transitive; antisymmetric = g.met.M.Order.antisymmetric } in
     let r = c.args in
     λ C q T. absurd (mouth_some κ O (area_of r.block.now) r.levels.now r.origins.now C r.cell c.in-Some.origin c.requires.near.inside c.in-Some.is (sym c.in_default-mouth_of.ensures))
 
 pub join-requires : goal.join-requires
 join-requires g c =
-    let κ = kind_of g.M.Order g.M.Mark in
+    let κ = kind_of g.M.Order g.M.Mark.lowest in
     let O : OrderLaws κ.leb = record { total = g.met.M.Order.total; transitive = g.met.M.Order.transitive; antisymmetric = g.met.M.Order.antisymmetric } in
     let r = c.args in
     let a = area_of r.block.now in
@@ -84,7 +84,7 @@ join-requires g c =
 
 pub returns : goal.returns
 returns g c =
-    let κ = kind_of g.M.Order g.M.Mark in
+    let κ = kind_of g.M.Order g.M.Mark.lowest in
     let O : OrderLaws κ.leb = record { total = g.met.M.Order.total; transitive = g.met.M.Order.transitive; antisymmetric = g.met.M.Order.antisymmetric } in
     let r = c.args in
     let inside : r.cell < length r.levels.now = omega (arith, c.requires.near.inside, c.requires.slices.0) in

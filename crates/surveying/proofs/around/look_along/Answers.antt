@@ -25,4 +25,4 @@ pub returns : goal.returns
 returns g c =
     let r = c.args in
     let end : c.loop-cell.cell ≡ r.end = omega (arith, c.loop-cell.auto.cell-end c.requires.near.0, c.loop-cell-test.false) in
-    subst (λ b. GoesOn (kind_of g.M.Order g.M.Mark) (area_of r.block.now) r.levels.now r.origins.now r.first r.from r.start r.labels.now r.passes.now r.count b c.loop-cell.labels c.loop-cell.passes c.loop-cell.count) end c.loop-cell.invariant
+    subst (λ b. GoesOn (kind_of g.M.Order g.M.Mark.lowest) (area_of r.block.now) r.levels.now r.origins.now r.first r.from r.start r.labels.now r.passes.now r.count b c.loop-cell.labels c.loop-cell.passes c.loop-cell.count) end c.loop-cell.invariant

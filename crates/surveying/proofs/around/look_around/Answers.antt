@@ -7,28 +7,28 @@ use Rattle.surveying.proofs.around.look_around.Goals as goal
 
 pub mouth_of-requires : goal.mouth_of-requires
 mouth_of-requires g c =
-    let κ = kind_of g.M.Order g.M.Mark in
+    let κ = kind_of g.M.Order g.M.Mark.lowest in
     let O : OrderLaws κ.leb = record { total = g.met.M.Order.total; transitive = g.met.M.Order.transitive; antisymmetric = g.met.M.Order.antisymmetric } in
     let r = c.args in
     origin_in_lem κ O (area_of r.block.now) r.levels.now r.origins.now c.requires.turn.0 r.from.node r.from.origin c.requires.from.inside c.requires.from.origin
 
 pub returns-in_default : goal.returns-in_default
 returns-in_default g c =
-    let κ = kind_of g.M.Order g.M.Mark in
+    let κ = kind_of g.M.Order g.M.Mark.lowest in
     let O : OrderLaws κ.leb = record { total = g.met.M.Order.total; transitive = g.met.M.Order.transitive; antisymmetric = g.met.M.Order.antisymmetric } in
     let r = c.args in
     λ C q T. absurd (mouth_some κ O (area_of r.block.now) r.levels.now r.origins.now C r.from.node r.from.origin c.requires.from.inside c.requires.from.origin (sym c.in_default.ensures))
 
 pub loop-near-init : goal.loop-near-init
 loop-near-init g c =
-    let κ = kind_of g.M.Order g.M.Mark in
+    let κ = kind_of g.M.Order g.M.Mark.lowest in
     let O : OrderLaws κ.leb = record { total = g.met.M.Order.total; transitive = g.met.M.Order.transitive; antisymmetric = g.met.M.Order.antisymmetric } in
     let r = c.args in
     λ C q T. jump_first κ O (area_of r.block.now) r.levels.now r.origins.now C q r.first r.from r.labels.now r.passes.now r.count c.width-width.result c.saturating_sub-near.result c.width-width.ensures c.saturating_sub-near.ensures T
 
 pub look_along-count-requires : goal.look_along-count-requires
 look_along-count-requires g c =
-    let κ = kind_of g.M.Order g.M.Mark in
+    let κ = kind_of g.M.Order g.M.Mark.lowest in
     let O : OrderLaws κ.leb = record { total = g.met.M.Order.total; transitive = g.met.M.Order.transitive; antisymmetric = g.met.M.Order.antisymmetric } in
     let r = c.args in
     let turn = c.requires.turn in
@@ -47,7 +47,7 @@ look_along-count-requires g c =
 
 pub loop-near-preserved : goal.loop-near-preserved
 loop-near-preserved g c =
-    let κ = kind_of g.M.Order g.M.Mark in
+    let κ = kind_of g.M.Order g.M.Mark.lowest in
     let O : OrderLaws κ.leb = record { total = g.met.M.Order.total; transitive = g.met.M.Order.transitive; antisymmetric = g.met.M.Order.antisymmetric } in
     let r = c.args in
     λ C q T. jump_right κ O (area_of r.block.now) r.levels.now r.origins.now C q r.first r.from c.look_along-count.new.labels c.look_along-count.new.passes c.look_along-count.result c.width-width.result c.min-right.result c.loop-near.near c.width-width.ensures c.min-right.ensures
@@ -55,7 +55,7 @@ loop-near-preserved g c =
 
 pub returns : goal.returns
 returns g c =
-    let κ = kind_of g.M.Order g.M.Mark in
+    let κ = kind_of g.M.Order g.M.Mark.lowest in
     let O : OrderLaws κ.leb = record { total = g.met.M.Order.total; transitive = g.met.M.Order.transitive; antisymmetric = g.met.M.Order.antisymmetric } in
     let r = c.args in
     λ C q T. jump_last κ O (area_of r.block.now) r.levels.now r.origins.now C q r.first r.from c.loop-near.labels c.loop-near.passes c.loop-near.count c.width-width.result c.height.result c.min-near-end.result c.loop-near.near c.width-width.ensures c.height.ensures c.min-near-end.ensures c.loop-near-test.false (c.loop-near.invariant C q T)

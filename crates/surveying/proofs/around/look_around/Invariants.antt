@@ -6,4 +6,4 @@ use Rattle.surveying.proofs.around.look_around.Given as goal
 
 abbrev pub invariant-loop-near : goal.invariant-loop-near
 invariant-loop-near g l =
-    GoesOn (kind_of g.M.Order g.M.Mark) (area_of l.block) l.levels l.origins l.first l.from 0 l.initial.labels l.initial.passes l.initial.count (l.near * width (area_of l.block)) l.labels l.passes l.count
+    GoesOn (kind_of g.M.Order g.M.Mark.lowest) (area_of l.block) l.levels l.origins l.first l.from 0 l.initial.labels l.initial.passes l.initial.count (l.near * width (area_of l.block)) l.labels l.passes l.count

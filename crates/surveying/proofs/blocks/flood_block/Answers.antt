@@ -11,7 +11,7 @@ use Rattle.surveying.proofs.blocks.flood_block.Goals as goal
 
 pub returns : goal.returns
 returns g c =
-    let κ = kind_of g.Mark.Order g.Mark.Mark in
+    let κ = kind_of g.Mark.Order g.Mark.Mark.lowest in
     let m = g.S.Sheet.meaning c.args.source.now in
     let b = c.args.block.now in
     let h = c.height.result in

@@ -12,7 +12,7 @@ use Rattle.surveying.proofs.linking.enter.Goals as goal
 
 pub returns-in_default : goal.returns-in_default
 returns-in_default g c =
-    let κ = kind_of g.M.Order g.M.Mark in
+    let κ = kind_of g.M.Order g.M.Mark.lowest in
     let O : OrderLaws κ.leb = record { total = g.met.M.Order.total; transitive = g.met.M.Order.transitive; antisymmetric = g.met.M.Order.antisymmetric } in
     let r = c.args in
     let a = area_of r.block.now in
@@ -25,7 +25,7 @@ returns-in_default g c =
 
 pub returns-in_default-known : goal.returns-in_default-known
 returns-in_default-known g c =
-    let κ = kind_of g.M.Order g.M.Mark in
+    let κ = kind_of g.M.Order g.M.Mark.lowest in
     let O : OrderLaws κ.leb = record { total = g.met.M.Order.total; transitive = g.met.M.Order.transitive; antisymmetric = g.met.M.Order.antisymmetric } in
     let r = c.args in
     let a = area_of r.block.now in
@@ -36,7 +36,7 @@ returns-in_default-known g c =
 
 pub returns : goal.returns
 returns g c =
-    let κ = kind_of g.M.Order g.M.Mark in
+    let κ = kind_of g.M.Order g.M.Mark.lowest in
     let O : OrderLaws κ.leb = record { total = g.met.M.Order.total; transitive = g.met.M.Order.transitive; antisymmetric = g.met.M.Order.antisymmetric } in
     let r = c.args in
     let a = area_of r.block.now in

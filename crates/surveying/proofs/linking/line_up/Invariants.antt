@@ -11,4 +11,4 @@ invariant-loop-node g l =
     (l.heap.len ≤ l.node)
     × (cells_of (area_of l.block) ≤ room l.heap)
     × Sound (before g.M.Order.leb) l.heap
-    × Lined (kind_of g.M.Order g.M.Mark) (area_of l.block) l.levels l.origins l.node (contents l.heap)
+    × Lined (kind_of g.M.Order g.M.Mark.lowest) (area_of l.block) l.levels l.origins l.node (contents l.heap)

@@ -26,4 +26,4 @@ returns g c = λ C.
     let n = length r.labels.now - 1 in
     let part = part_length r.passes.now r.start n c.requires.passes in
     let long : length c.link_mouths.new.passes ≡ r.start + n - r.start = omega (arith, part, c.link_mouths.auto.passes) in
-    linked_part (kind_of g.M.Order g.M.Mark) (area_of r.block.now) r.levels.now r.origins.now C r.first r.start (r.start + n - r.start) c.link_mouths.result c.link_mouths.new.labels r.passes.now c.link_mouths.new.passes (omega (arith, c.requires.passes)) long (c.link_mouths.ensures C)
+    linked_part (kind_of g.M.Order g.M.Mark.lowest) (area_of r.block.now) r.levels.now r.origins.now C r.first r.start (r.start + n - r.start) c.link_mouths.result c.link_mouths.new.labels r.passes.now c.link_mouths.new.passes (omega (arith, c.requires.passes)) long (c.link_mouths.ensures C)

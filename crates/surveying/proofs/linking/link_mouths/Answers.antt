@@ -15,7 +15,7 @@ use Rattle.surveying.proofs.linking.link_mouths.Goals as goal
 
 pub loop-from-init : goal.loop-from-init
 loop-from-init g c =
-    let κ = kind_of g.M.Order g.M.Mark in
+    let κ = kind_of g.M.Order g.M.Mark.lowest in
     let O : OrderLaws κ.leb = record { total = g.met.M.Order.total; transitive = g.met.M.Order.transitive; antisymmetric = g.met.M.Order.antisymmetric } in
     let r = c.args in
     let a = area_of r.block.now in (
@@ -28,7 +28,7 @@ loop-from-init g c =
 
 pub look_around-count-requires : goal.look_around-count-requires
 look_around-count-requires g c =
-    let κ = kind_of g.M.Order g.M.Mark in
+    let κ = kind_of g.M.Order g.M.Mark.lowest in
     let O : OrderLaws κ.leb = record { total = g.met.M.Order.total; transitive = g.met.M.Order.transitive; antisymmetric = g.met.M.Order.antisymmetric } in
     let r = c.args in
     let a = area_of r.block.now in
@@ -45,7 +45,7 @@ look_around-count-requires g c =
 
 pub loop-from-preserved : goal.loop-from-preserved
 loop-from-preserved g c =
-    let κ = kind_of g.M.Order g.M.Mark in
+    let κ = kind_of g.M.Order g.M.Mark.lowest in
     let O : OrderLaws κ.leb = record { total = g.met.M.Order.total; transitive = g.met.M.Order.transitive; antisymmetric = g.met.M.Order.antisymmetric } in
     let r = c.args in
     let a = area_of r.block.now in
@@ -64,7 +64,7 @@ loop-from-preserved g c =
 
 pub returns : goal.returns
 returns g c =
-    let κ = kind_of g.M.Order g.M.Mark in
+    let κ = kind_of g.M.Order g.M.Mark.lowest in
     let r = c.args in
     let a = area_of r.block.now in
     let l = c.loop-from in

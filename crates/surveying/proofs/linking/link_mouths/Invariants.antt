@@ -9,7 +9,7 @@ use Rattle.surveying.proofs.linking.link_mouths.Given as goal
 
 abbrev pub invariant-loop-from : goal.invariant-loop-from
 invariant-loop-from g l =
-    let κ = kind_of g.M.Order g.M.Mark in
+    let κ = kind_of g.M.Order g.M.Mark.lowest in
     let a = area_of l.block in
     Sound (before g.M.Order.leb) l.heap
     × All (Stands κ a l.levels l.origins) (contents l.heap)

@@ -14,7 +14,7 @@ returns-in_err-flood_cells g c =
 
 pub returns : goal.returns
 returns g c =
-    let κ = kind_of g.S.Mark.Order g.row.S-Mark-Mark in
+    let κ = kind_of g.S.Mark.Order g.S.Mark.Mark.lowest in
     let O : OrderLaws κ.leb = record { total = g.met.S.Mark.Order.total; transitive = g.met.S.Mark.Order.transitive; antisymmetric = g.met.S.Mark.Order.antisymmetric } in
     let m = g.S.Sheet.meaning c.args.source.now in
     let h = g.T.Sheet.meaning c.args.target.now in

@@ -6,7 +6,7 @@ use Rattle.terrain.proofs.fill.fill_sheet.Goals as goal
 
 pub returns-then-differ : goal.returns-then-differ
 returns-then-differ g c =
-    let κ = kind_of g.S.Mark.Order g.row.S-Mark-Mark in
+    let κ = kind_of g.S.Mark.Order g.S.Mark.Mark.lowest in
     let O : OrderLaws κ.leb = record { total = g.met.S.Mark.Order.total; transitive = g.met.S.Mark.Order.transitive; antisymmetric = g.met.S.Mark.Order.antisymmetric } in
     let m = g.S.Sheet.meaning c.args.source.now in
     let h = g.T.Sheet.meaning c.args.target.now in
@@ -20,7 +20,7 @@ returns-then-differ g c =
 
 pub returns-then-is_short : goal.returns-then-is_short
 returns-then-is_short g c =
-    let κ = kind_of g.S.Mark.Order g.row.S-Mark-Mark in
+    let κ = kind_of g.S.Mark.Order g.S.Mark.Mark.lowest in
     let O : OrderLaws κ.leb = record { total = g.met.S.Mark.Order.total; transitive = g.met.S.Mark.Order.transitive; antisymmetric = g.met.S.Mark.Order.antisymmetric } in
     let m = g.S.Sheet.meaning c.args.source.now in
     let h = g.T.Sheet.meaning c.args.target.now in
@@ -34,7 +34,7 @@ returns-then-is_short g c =
 
 pub returns : goal.returns
 returns g c =
-    let κ = kind_of g.S.Mark.Order g.row.S-Mark-Mark in
+    let κ = kind_of g.S.Mark.Order g.S.Mark.Mark.lowest in
     let O : OrderLaws κ.leb = record { total = g.met.S.Mark.Order.total; transitive = g.met.S.Mark.Order.transitive; antisymmetric = g.met.S.Mark.Order.antisymmetric } in
     let m = g.S.Sheet.meaning c.args.source.now in
     let h = g.T.Sheet.meaning c.args.target.now in

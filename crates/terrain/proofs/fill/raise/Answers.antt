@@ -8,7 +8,7 @@ use Rattle.terrain.proofs.fill.raise.Goals.{then-has_risen, else-has_risen}
 
 pub loop-k-preserved : goal.loop-k-preserved
 loop-k-preserved g c =
-    let κ = kind_of g.M.Order g.row.M-Mark in
+    let κ = kind_of g.M.Order g.M.Mark.lowest in
     let k = c.loop-k.k in
     let m = c.index-marks-k.result in
     let inside : k < length c.loop-k.marks = omega arith in

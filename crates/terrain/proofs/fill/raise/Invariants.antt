@@ -5,6 +5,6 @@ use Rattle.terrain.proofs.fill.raise.Given as goal
 
 abbrev pub invariant-loop-k : goal.invariant-loop-k
 invariant-loop-k g l =
-    Raised (kind_of g.M.Order g.row.M-Mark) l.initial.marks l.marks l.levels l.k
-    × (l.raised ≡ risen (kind_of g.M.Order g.row.M-Mark) l.initial.marks l.levels l.k)
+    Raised (kind_of g.M.Order g.M.Mark.lowest) l.initial.marks l.marks l.levels l.k
+    × (l.raised ≡ risen (kind_of g.M.Order g.M.Mark.lowest) l.initial.marks l.levels l.k)
     × (l.raised ≤ l.k)

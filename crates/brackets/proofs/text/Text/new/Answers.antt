@@ -6,7 +6,7 @@ use Rattle.brackets.proofs.text.Text.new.Given as given
 use Rattle.brackets.proofs.text.Text.new.Goals as goal
 
 spelling : (g : given.Over) → Spelling g.M.Spelled.spelled
-spelling g = let m = g.met.M.CodedMark in record { one = g.row.M-Mark.lowest; distinct = m.distinct; clear = m.clear }
+spelling g = let m = g.met.M.CodedMark in record { one = g.M.Mark.lowest; distinct = m.distinct; clear = m.clear }
 
 coding : (g : given.Over) → Coding g.M.CodedMark.coded g.M.CodedMark.decoded g.M.Spelled.spelled
 coding g = let m = g.met.M.CodedMark in record { narrow = m.narrow; encodes = m.encodes; distinct = m.distinct }

@@ -8,11 +8,11 @@ use Rattle.settling.proofs.ground.meaning.nth_seam.Goals.{in-Some+else-left-eq0,
 
 pub returns-then-left-eq0 : goal.returns-then-left-eq0
 returns-then-left-eq0 g c =
-    passing_found (seam_at (kind_of g.M.Order g.row.M-Mark) (plan_of c.args.cuts.now) c.args.mouths.now c.args.node) 9 c.args.place c.loop-k.k c.loop-k.left c.in-Some.link c.loop-k-test.true (sym c.seam_link.ensures ∙ c.in-Some.is) c.if-left-eq0.true c.loop-k.invariant
+    passing_found (seam_at (kind_of g.M.Order g.M.Mark.lowest) (plan_of c.args.cuts.now) c.args.mouths.now c.args.node) 9 c.args.place c.loop-k.k c.loop-k.left c.in-Some.link c.loop-k-test.true (sym c.seam_link.ensures ∙ c.in-Some.is) c.if-left-eq0.true c.loop-k.invariant
 
 pub loop-k-preserved : goal.loop-k-preserved
 loop-k-preserved g c =
-    let f = seam_at (kind_of g.M.Order g.row.M-Mark) (plan_of c.args.cuts.now) c.args.mouths.now c.args.node in
+    let f = seam_at (kind_of g.M.Order g.M.Mark.lowest) (plan_of c.args.cuts.now) c.args.mouths.now c.args.node in
     elim c.match-seam_link.branch [
       | in-Some+else-left-eq0 w ↦
           rw w.left-is (passing_some f 9 c.args.place c.loop-k.k c.loop-k.left w.in-Some.link c.loop-k-test.true (sym c.seam_link.ensures ∙ w.in-Some.is) (omega (arith, w.if-left-eq0.false)) c.loop-k.invariant)
@@ -21,4 +21,4 @@ loop-k-preserved g c =
 
 pub returns : goal.returns
 returns g c =
-    (passing_end (seam_at (kind_of g.M.Order g.row.M-Mark) (plan_of c.args.cuts.now) c.args.mouths.now c.args.node) 9 c.args.place c.loop-k.k c.loop-k.left c.loop-k-test.false c.loop-k.invariant).0
+    (passing_end (seam_at (kind_of g.M.Order g.M.Mark.lowest) (plan_of c.args.cuts.now) c.args.mouths.now c.args.node) 9 c.args.place c.loop-k.k c.loop-k.left c.loop-k-test.false c.loop-k.invariant).0

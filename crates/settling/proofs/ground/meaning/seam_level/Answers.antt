@@ -6,7 +6,7 @@ use Rattle.settling.proofs.ground.meaning.seam_level.Goals as goal
 pub returns : goal.returns
 returns g c =
     let ms = c.args.mouths.now in
-    let void = g.row.M-Mark.lowest in
+    let void = g.M.Mark.lowest in
     c.higher.ensures
     ∙ ap₂ (highest g.M.Order.leb)
     (ap (λ r. r.mark) (sym c.index-mouths-min.is) ∙ mark_read void ms (min c.args.node c.args.far) c.min.result c.index-mouths-min.result c.min.ensures (omega (arith, c.requires)) c.index-mouths-min.is)

@@ -37,7 +37,7 @@ returns-in_err-cell g c =
     let p = plan_of c.args.cuts.now in
     let m = c.args.mouth in
     c.from_residual.ensures
-    ∙ sym (seam_outside (kind_of g.M.Order g.row.M-Mark) p c.sides-rows.ensures.rules c.args.mouths.now c.args.node c.args.k m.row m.col c.requires.here.number
+    ∙ sym (seam_outside (kind_of g.M.Order g.M.Mark.lowest) p c.sides-rows.ensures.rules c.args.mouths.now c.args.node c.args.k m.row m.col c.requires.here.number
     (looked p c.sides-rows.result (place m.row m.col) c.args.k None c.around.result c.sides-rows.ensures.value c.around.ensures c.in_err-cell.was))
 
 pub returns-in_err-spot : goal.returns-in_err-spot
@@ -45,7 +45,7 @@ returns-in_err-spot g c =
     let p = plan_of c.args.cuts.now in
     let m = c.args.mouth in
     let d = c.in_ok-cell.cell in
-    absurd (seam_spot (kind_of g.M.Order g.row.M-Mark) p c.sides-rows.ensures.rules c.args.mouths.now c.args.node c.args.k m.row m.col c.requires.here.number d
+    absurd (seam_spot (kind_of g.M.Order g.M.Mark.lowest) p c.sides-rows.ensures.rules c.args.mouths.now c.args.node c.args.k m.row m.col c.requires.here.number d
     (looked p c.sides-rows.result (place m.row m.col) c.args.k (Some d) c.around.result c.sides-rows.ensures.value c.around.ensures c.in_ok-cell.was)
     (sym c.spot.ensures ∙ c.in_err-spot.was))
 
@@ -55,7 +55,7 @@ returns-then-spot-mouth g c =
     let m = c.args.mouth in
     let d = c.in_ok-cell.cell in
     let s = c.in_ok-spot.spot in
-    sym (seam_inside (kind_of g.M.Order g.row.M-Mark) p c.sides-rows.ensures.rules c.args.mouths.now c.args.node c.args.k m.row m.col c.requires.here.number d
+    sym (seam_inside (kind_of g.M.Order g.M.Mark.lowest) p c.sides-rows.ensures.rules c.args.mouths.now c.args.node c.args.k m.row m.col c.requires.here.number d
     (looked p c.sides-rows.result (place m.row m.col) c.args.k (Some d) c.around.result c.sides-rows.ensures.value c.around.ensures c.in_ok-cell.was)
     s (sym c.spot.ensures ∙ c.in_ok-spot.was) (c.if-spot-mouth.true ∙ c.requires.here.tile))
 
@@ -65,7 +65,7 @@ returns-in_err-far g c =
     let m = c.args.mouth in
     let d = c.in_ok-cell.cell in
     let s = c.in_ok-spot.spot in
-    let κ = kind_of g.M.Order g.row.M-Mark in
+    let κ = kind_of g.M.Order g.M.Mark.lowest in
     let ms = c.args.mouths.now in
     c.from_residual-in_err-far.ensures
     ∙ sym (seam_over κ p c.sides-rows.ensures.rules ms c.args.node c.args.k m.row m.col c.requires.here.number d
@@ -89,7 +89,7 @@ returns g c =
     let m = c.args.mouth in
     let d = c.in_ok-cell.cell in
     let s = c.in_ok-spot.spot in
-    let κ = kind_of g.M.Order g.row.M-Mark in
+    let κ = kind_of g.M.Order g.M.Mark.lowest in
     let ms = c.args.mouths.now in
     ap (λ l. Some (c.in_ok-far.far, l)) c.seam_level.ensures
     ∙ sym (seam_over κ p c.sides-rows.ensures.rules ms c.args.node c.args.k m.row m.col c.requires.here.number d

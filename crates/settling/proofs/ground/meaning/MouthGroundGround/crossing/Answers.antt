@@ -30,7 +30,7 @@ pub returns-in_err-mouth : goal.returns-in_err-mouth
 returns-in_err-mouth g c =
     let s = c.args.self.now in
     c.from_residual.ensures
-    ∙ sym (ap (λ xs. slice_get xs c.args.place) (unlisted (kind_of g.M.Order g.row.M-Mark) (plan_of s.cuts) (tables s.mouths.now s.passes.now) (lawful_plan s.cuts) c.args.node c.in_err-mouth.ensures))
+    ∙ sym (ap (λ xs. slice_get xs c.args.place) (unlisted (kind_of g.M.Order g.M.Mark.lowest) (plan_of s.cuts) (tables s.mouths.now s.passes.now) (lawful_plan s.cuts) c.args.node c.in_err-mouth.ensures))
 
 pub nth_pass-requires : goal.nth_pass-requires
 nth_pass-requires g c =
@@ -38,18 +38,18 @@ nth_pass-requires g c =
     let p = plan_of s.cuts in
     let m = c.in_ok-mouth.mouth in
     let e = c.in_ok-mouth.ensures in
-    let tile = e.1 ∙ sym (tile_read (kind_of g.M.Order g.row.M-Mark) p (lawful_plan s.cuts) s.mouths.now c.args.node 0 m.row m.col e.0) in
+    let tile = e.1 ∙ sym (tile_read (kind_of g.M.Order g.M.Mark.lowest) p (lawful_plan s.cuts) s.mouths.now c.args.node 0 m.row m.col e.0) in
     record { room = s.passed; tile = (tile, rw e.1 (tile_exists p m.row m.col)) }
 
 pub returns-in-Ok : goal.returns-in-Ok
 returns-in-Ok g c =
     let s = c.args.self.now in
     let m = c.in_ok-mouth.mouth in
-    sym (in_seams (kind_of g.M.Order g.row.M-Mark) (plan_of s.cuts) (tables s.mouths.now s.passes.now) (lawful_plan s.cuts) m.row m.col c.args.node c.args.place c.in-Ok.link c.in_ok-mouth.ensures.0 c.in-Ok.ensures)
+    sym (in_seams (kind_of g.M.Order g.M.Mark.lowest) (plan_of s.cuts) (tables s.mouths.now s.passes.now) (lawful_plan s.cuts) m.row m.col c.args.node c.args.place c.in-Ok.link c.in_ok-mouth.ensures.0 c.in-Ok.ensures)
 
 pub returns-in-Err : goal.returns-in-Err
 returns-in-Err g c =
     let s = c.args.self.now in
     let m = c.in_ok-mouth.mouth in
     let e = c.in_ok-mouth.ensures in
-    in_passes (kind_of g.M.Order g.row.M-Mark) (plan_of s.cuts) (tables s.mouths.now s.passes.now) (lawful_plan s.cuts) m.row m.col c.args.node m.tile c.args.place c.in-Err.left c.nth_pass.result e.0 e.1 c.in-Err.ensures c.nth_pass.ensures
+    in_passes (kind_of g.M.Order g.M.Mark.lowest) (plan_of s.cuts) (tables s.mouths.now s.passes.now) (lawful_plan s.cuts) m.row m.col c.args.node m.tile c.args.place c.in-Err.left c.nth_pass.result e.0 e.1 c.in-Err.ensures c.nth_pass.ensures

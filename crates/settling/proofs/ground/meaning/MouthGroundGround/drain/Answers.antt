@@ -20,7 +20,7 @@ pub returns-in_err-mouth : goal.returns-in_err-mouth
 returns-in_err-mouth g c =
     let s = c.args.self.now in
     let p = plan_of s.cuts in
-    c.from_residual.ensures ∙ sym (drain_none (kind_of g.M.Order g.row.M-Mark) p (tables s.mouths.now s.passes.now) (lawful_plan s.cuts) c.args.node c.in_err-mouth.ensures)
+    c.from_residual.ensures ∙ sym (drain_none (kind_of g.M.Order g.M.Mark.lowest) p (tables s.mouths.now s.passes.now) (lawful_plan s.cuts) c.args.node c.in_err-mouth.ensures)
 
 pub on_edge-requires : goal.on_edge-requires
 on_edge-requires g c =
@@ -58,7 +58,7 @@ returns-then-on_edge g c =
     let m = c.in_ok-mouth.mouth in
     let e = c.in_ok-mouth.ensures.0 in
     let law = c.sides-rows.ensures.rules in
-    let κ = kind_of g.M.Order g.row.M-Mark in
+    let κ = kind_of g.M.Order g.M.Mark.lowest in
     ap Some (ap (λ r. r.mark) (sym c.index-mouths-node.is) ∙ mark_read κ.void s.mouths.now c.args.node c.args.node c.index-mouths-node.result refl (recorded p law m.row m.col c.args.node (length s.mouths.now) e s.marked) c.index-mouths-node.is)
     ∙ sym (drain_read κ p (tables s.mouths.now s.passes.now) law c.args.node m.row m.col true e (edge p c.sides-rows.result true m.row m.col c.sides-rows.ensures.value c.if-on_edge.ensures))
 
@@ -67,5 +67,5 @@ returns-else-on_edge g c =
     let s = c.args.self.now in
     let p = plan_of s.cuts in
     let m = c.in_ok-mouth.mouth in
-    let κ = kind_of g.M.Order g.row.M-Mark in
+    let κ = kind_of g.M.Order g.M.Mark.lowest in
     sym (drain_read κ p (tables s.mouths.now s.passes.now) c.sides-rows.ensures.rules c.args.node m.row m.col false c.in_ok-mouth.ensures.0 (edge p c.sides-rows.result false m.row m.col c.sides-rows.ensures.value c.if-on_edge.ensures))

@@ -39,5 +39,5 @@ pub returns : goal.returns
 returns g c =
     let s = c.args.self.now in
     let f = c.in_ok-far.ensures in
-    same (between g.M.Order.leb g.row.M-Mark.lowest s.marks.now c.args.node) _ _ _ _ c.level_between-level.ensures f.1
-    (crossing_read g.M.Order.leb g.row.M-Mark.lowest s.rows s.cols s.marks.now c.args.node c.args.place (omega (arith, s.long)) f.0)
+    same (between g.M.Order.leb g.M.Mark.lowest s.marks.now c.args.node) _ _ _ _ c.level_between-level.ensures f.1
+    (crossing_read g.M.Order.leb g.M.Mark.lowest s.rows s.cols s.marks.now c.args.node c.args.place (omega (arith, s.long)) f.0)

@@ -12,10 +12,10 @@ on_edge-requires g c = place_in c.args.self.now.rows c.args.self.now.cols c.args
 pub returns-then-on_edge : goal.returns-then-on_edge
 returns-then-on_edge g c =
     let s = c.args.self.now in
-    ap Some (get_or_read s.marks.now c.args.node c.index-marks-node.result c.if-node-marks.false c.index-marks-node.is g.row.M-Mark.lowest)
-    ∙ sym (drain_by g.M.Order.leb g.row.M-Mark.lowest s.rows s.cols s.marks.now c.args.node true (omega (arith, s.long)) (sym c.if-on_edge.ensures))
+    ap Some (get_or_read s.marks.now c.args.node c.index-marks-node.result c.if-node-marks.false c.index-marks-node.is g.M.Mark.lowest)
+    ∙ sym (drain_by g.M.Order.leb g.M.Mark.lowest s.rows s.cols s.marks.now c.args.node true (omega (arith, s.long)) (sym c.if-on_edge.ensures))
 
 pub returns-else-on_edge : goal.returns-else-on_edge
 returns-else-on_edge g c =
     let s = c.args.self.now in
-    sym (drain_by g.M.Order.leb g.row.M-Mark.lowest s.rows s.cols s.marks.now c.args.node false (omega (arith, s.long)) (sym c.if-on_edge.ensures))
+    sym (drain_by g.M.Order.leb g.M.Mark.lowest s.rows s.cols s.marks.now c.args.node false (omega (arith, s.long)) (sym c.if-on_edge.ensures))
