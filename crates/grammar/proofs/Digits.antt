@@ -1,11 +1,11 @@
 -- Beginnings of decimal numbers. Assumes nothing.
-use Rattle.std.proofs.Common.{◌≡◌, ℕ, zero, suc, ◌+◌, ◌*◌, ◌/◌, ◌%◌, ◌^◌, ◌<◌, ◌≤◌, ◌⊎◌, List, [], ◌∷◌, ◌++◌, length, get_or, take, drop, decimal, sym, refl, ap, ◌∙◌, subst, inl, inr, ⊎_elim, append_assoc, append-nil, arith, length-append, length-drop}
+use Rattle.std.proofs.Common.{◌≡◌, ℕ, ◌+◌, ◌*◌, ◌/◌, ◌%◌, ◌^◌, ◌<◌, ◌≤◌, List, [], ◌∷◌, ◌++◌, length, get_or, drop, decimal, sym, refl, ap, ◌∙◌, inl, inr, ⊎_elim, append_assoc, append-nil, arith, length-append, length-drop}
 use Rattle.std.proofs.lemmas.Bool.{cases_lt}
 use Rattle.std.proofs.lemmas.List.{drop_more, same_from_push}
 use Rattle.std.proofs.lemmas.Fmt.{decimal_digit, decimal_step, decimal_by_steps, decimal_nonempty, decimal_injective}
-use Rattle.grammar.specs.Grammars.{Edge, Front}
+use Rattle.grammar.specs.Grammars.{Edge}
 use Rattle.grammar.specs.Decimals.{naturals, Begun, Part, Natural}
-use Rattle.grammar.proofs.Theory.{levi, not_nil, nil_left}
+use Rattle.grammar.proofs.Theory.{levi, not_nil}
 
 -- one digit more
 pub begun_more : (max n d : ℕ) (u : List ℕ) → max < 2 ^ 32 → Begun max u n → d < 10 → 1 ≤ n * 10 + d → n * 10 + d ≤ max → u ++ ((48 + d) ∷ []) ≡ decimal (n * 10 + d)

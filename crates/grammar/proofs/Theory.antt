@@ -1,9 +1,9 @@
 -- Reading by parts. Assumes nothing.
-use Rattle.std.proofs.Common.{◌≡◌, ℕ, zero, suc, ◌+◌, ◌-◌, ◌<◌, ◌≤◌, ◌⊎◌, List, [], ◌∷◌, ◌++◌, length, take, drop, sym, refl, ap, ◌∙◌, subst, inl, inr, ⊎_elim, append_assoc, append-nil, add_assoc, suc-add, zero-add, arith, length-append, length-drop, take-append-drop}
+use Rattle.std.proofs.Common.{◌≡◌, ℕ, zero, suc, ◌+◌, ◌-◌, ◌<◌, ◌≤◌, ◌⊎◌, List, [], ◌∷◌, ◌++◌, length, take, drop, sym, refl, ap, ◌∙◌, subst, inl, inr, ⊎_elim, append_assoc, append-nil, suc-add, zero-add, arith, length-append, length-drop, take-append-drop}
 use mathlib.Core.List.{append_cancel_left}
 use Rattle.std.proofs.lemmas.Bool.{cases_lt}
 use Rattle.std.proofs.lemmas.List.{take_at, drop_at, length-take-le, drop-drop}
-use Rattle.grammar.specs.Grammars.{Grammar, Shared, LongestShared, Front, Edge, Stuck, Found, Lost, Reads, Code, Injective, Without, all_by, lit, ended, seq, rep, rep_valid, rep_text, After, Sofar}
+use Rattle.grammar.specs.Grammars.{Grammar, Shared, LongestShared, Front, Edge, Stuck, Found, Lost, Code, Injective, Without, lit, ended, seq, rep, rep_valid, rep_text, After, Sofar}
 
 -- of two ways to split a list, one front begins the other
 pub levi : {A : Type 0} (xs ys us vs : List A) → xs ++ ys ≡ us ++ vs → ((m : List A) × (xs ≡ us ++ m) × (vs ≡ m ++ ys)) ⊎ ((m : List A) × (us ≡ xs ++ m) × (ys ≡ m ++ vs))

@@ -1,9 +1,8 @@
 -- One word, byte by byte. Assumes nothing.
-use Rattle.std.proofs.Common.{◌≡◌, ℕ, ◌+◌, ◌<◌, ◌≤◌, ◌⊎◌, List, [], ◌∷◌, ◌++◌, length, get_or, take, drop, sym, refl, ap, ◌∙◌, subst, inl, inr, ⊎_elim, append_assoc, append-nil, arith, length-append, length-drop, take-append-drop}
+use Rattle.std.proofs.Common.{◌≡◌, ℕ, ◌+◌, ◌<◌, ◌≤◌, List, [], ◌∷◌, ◌++◌, length, get_or, take, drop, sym, ap, ◌∙◌, append_assoc, arith, length-drop, take-append-drop}
 use mathlib.Core.List.{append_cancel_left}
-use Rattle.std.proofs.lemmas.List.{take_more, drop_more, length-take-le, take_all, drop_all}
-use Rattle.grammar.specs.Grammars.{Lost, Found, Stuck, Edge, Front, lit}
-use Rattle.grammar.proofs.Theory.{not_nil}
+use Rattle.std.proofs.lemmas.List.{take_more, drop_more, length-take-le, take_all}
+use Rattle.grammar.specs.Grammars.{Lost, Found, lit}
 
 module _ (w bs : List ℕ) (at end i : ℕ) (is : end ≡ at + i) (split : drop at bs ≡ take i w ++ drop end bs) where
   pub word_more : i < length w → end < length bs → get_or bs end 0 ≡ get_or w i 0 → drop at bs ≡ take (i + 1) w ++ drop (end + 1) bs

@@ -1,5 +1,5 @@
 -- The codes of heights. Assumes nothing.
-use Rattle.std.specs.Prelude.{◌≡◌, ℕ, ◌^◌, ◌<◌, Bool, true, false, cond, ℤ, Some, None, Option, nat_lt, refl}
+use Rattle.std.specs.Prelude.{◌≡◌, ℕ, ◌^◌, Bool, true, false, cond, ℤ, Some, None, Option, nat_lt, refl}
 use Rattle.std.specs.Int.Signed.{mag}
 use Rattle.std.proofs.Common.{ltb-true, of_z, to_z}
 use Rattle.std.specs.Int.{w16}

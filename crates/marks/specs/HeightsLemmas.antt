@@ -1,6 +1,6 @@
 -- Two heights of one number are one height, and its bits tell the number. Assumes nothing.
-use Rattle.std.specs.Prelude.{◌≡◌, ℕ, ◌^◌, ◌<◌, Bool, true, false, cond, ltb, ℤ, pos, negsuc, Some, None, Option, int_le, nat_lt, refl}
-use Rattle.std.proofs.Common.{ap, sym, ◌∙◌, arith, ltb-true, ltb-false, lt-ltb, SFits, to_z, of_z}
+use Rattle.std.specs.Prelude.{◌≡◌, ℕ, ◌^◌, ◌<◌, Bool, true, false, cond, ltb, ℤ, pos, negsuc, Some, None, int_le, nat_lt, refl}
+use Rattle.std.proofs.Common.{ap, sym, ◌∙◌, arith, ltb-true, ltb-false, lt-ltb, to_z}
 use mathlib.Core.HLevel.{is_prop→PathP}
 use Rattle.std.proofs.Math.Bridge.{le_prop}
 use Rattle.std.specs.Int.Signed.{mag}

@@ -1,22 +1,21 @@
 -- The spellings of heights and classes. Assumes nothing.
-use Rattle.std.specs.Prelude.{◌≡◌, ℕ, zero, suc, ◌+◌, ◌-◌, ◌/◌, ◌%◌, ◌^◌, ◌<◌, ◌≤◌, Bool, true, false, cond, ◌⊎◌, List, [], ◌∷◌, ◌++◌, length, take, drop, ℤ, pos, negsuc, ◌-ℤ◌, Some, None, decimal, Option, MatchOption, ◌==◌, ◌≢◌, nat_lt, slice_index, slice_index_or, refl}
-use Rattle.std.proofs.Common.{sym, ap, subst, ◌∙◌, inl, inr, ⊎_elim, append-nil, append_assoc, arith, lit≤, to_z, of_z, length-append, length-drop, take-append-drop, ltb-true, eq-eqb, true-eqb, false-eqb}
+use Rattle.std.specs.Prelude.{◌≡◌, ℕ, zero, suc, ◌+◌, ◌/◌, ◌%◌, ◌^◌, ◌<◌, ◌≤◌, Bool, true, false, cond, List, [], ◌∷◌, ◌++◌, length, take, drop, ℤ, pos, negsuc, ◌-ℤ◌, Some, None, decimal, Option, MatchOption, ◌==◌, ◌≢◌, nat_lt, slice_index, slice_index_or, refl}
+use Rattle.std.proofs.Common.{sym, ap, subst, ◌∙◌, ⊎_elim, append_assoc, arith, lit≤, to_z, of_z, length-append, length-drop, take-append-drop, ltb-true, true-eqb}
 use Rattle.std.specs.Int.{w16}
 use Rattle.std.proofs.lemmas.Int.{ints}
 use Rattle.std.specs.Int.Signed.{mag}
 use Rattle.std.proofs.lemmas.Bool.{cases_lt}
-use Rattle.std.proofs.lemmas.List.{drop_more, take_at, drop_at, take_all, length-take-le, nil_from_length}
-use Rattle.std.proofs.lemmas.Fmt.{decimal_digit, decimal_step, decimal_by_steps, decimal_nonempty, decimal_injective, first_decimal, length-decimal-le}
+use Rattle.std.proofs.lemmas.List.{drop_more, take_at, drop_at, take_all, length-take-le}
+use Rattle.std.proofs.lemmas.Fmt.{decimal_digit, decimal_by_steps, decimal_nonempty, decimal_injective, first_decimal, length-decimal-le}
 use Rattle.grammar.specs.Grammars.{Grammar, Edge, Front, After, Scanned, LongestShared, all_by}
-use Rattle.grammar.specs.Decimals.{naturals, Begun, Part, Natural}
+use Rattle.grammar.specs.Decimals.{naturals, Begun, Natural}
 use Rattle.grammar.proofs.Digits.{natural_edge}
-use Rattle.grammar.proofs.Theory.{levi, not_nil, nil_left, longest_edge, edge_after}
+use Rattle.grammar.proofs.Theory.{levi, not_nil, longest_edge, edge_after}
 use Rattle.marks.specs.Spellings.{Separator, spelled_z}
 use Rattle.marks.specs.declared.height.Height.{Height}
 use Rattle.marks.specs.Classes.{letter_of}
 use Rattle.marks.specs.declared.class.Class.{Class}
 use Rattle.marks.specs.declared.class.Class.TheVariants.{Void, Open, Strip, Moist, Wet, Peat, Kept}
-use Rattle.marks.specs.HeightsLemmas.{same_height}
 
 -- every byte of a number is a digit or above
 abbrev High : ℕ → List ℕ → Type 0

@@ -23,9 +23,9 @@ fn codes(rt: HostRuntime) -> Result<(), Fail> {
 
 #[test]
 fn heights_are_spelled(rt: HostRuntime) -> Result<(), Fail> {
-    assert!(rt; height(-32767)?.spelling().as_bytes() == b"-32767");
-    assert!(rt; height(0)?.spelling().as_bytes() == b"0");
-    assert!(rt; Height::void().spelling().as_bytes() == b".");
+    assert!(rt; height(-32767)?.spelling().as_bytes() == b"-32767".as_slice());
+    assert!(rt; height(0)?.spelling().as_bytes() == b"0".as_slice());
+    assert!(rt; Height::void().spelling().as_bytes() == b".".as_slice());
     assert_eq!(rt; Height::from_spelling(b"32767"), Height::new(32767));
     assert_eq!(rt; Height::from_spelling(b"32768"), None);
     assert_eq!(rt; Height::from_spelling(b"."), Some(Height::void()));
@@ -48,7 +48,7 @@ fn beginnings_are_shared(rt: HostRuntime) {
 
 #[test]
 fn classes_are_spelled(rt: HostRuntime) {
-    assert!(rt; Class::Moist.spelling().as_bytes() == b"m");
+    assert!(rt; Class::Moist.spelling().as_bytes() == b"m".as_slice());
     assert_eq!(rt; Class::from_spelling(b"."), Some(Class::Void));
     assert_eq!(rt; Class::from_spelling(b"x"), None);
     assert_eq!(rt; Class::from_spelling(b"ok"), None);

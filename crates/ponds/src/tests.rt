@@ -108,17 +108,17 @@ fn heap(rt: HostRuntime) -> Result<(), Fail> {
 #[test]
 fn too_few(rt: HostRuntime) {
     let pond = Pond {
-        depths: &[
-            Class::Kept,
-            Class::Wet,
-            Class::Strip,
-            Class::Moist,
-            Class::Wet,
-        ],
+        low: Class::Open,
+        mid: Class::Wet,
+        high: Class::Kept,
     };
     let mut levels = [Some(Class::Void); 5];
-    let mut origins = [Some(7); 5];
-    let mut slots = entries(Class::Void);
+    let mut origins = [Some(77); 5];
+    let mut slots = [Entry {
+        level: Class::Void,
+        node: 0,
+        origin: 0,
+    }; 5];
     assert_eq!(rt;
         flood(&pond, &mut levels[..4], &mut origins, &mut slots),
         Err(Refusal::ScratchShort)

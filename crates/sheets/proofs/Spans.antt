@@ -1,9 +1,9 @@
 -- Runs that hold a dead cell or none, and runs that are written. Assumes nothing.
-use Rattle.std.proofs.Common.{◌≡◌, ℕ, zero, suc, ◌+◌, ◌-◌, ◌*◌, ◌<◌, ◌≤◌, Bool, true, false, ◌||◌, ◌≢◌, List, [], ◌∷◌, length, get_or, take, drop, set, sym, refl, ap, ◌∙◌, ⊎_elim, add_assoc, arith, below_more}
+use Rattle.std.proofs.Common.{◌≡◌, ℕ, zero, suc, ◌+◌, ◌*◌, ◌<◌, ◌≤◌, true, false, ◌≢◌, List, length, get_or, take, drop, set, sym, refl, ap, ◌∙◌, ⊎_elim, add_assoc, arith, below_more}
 use Rattle.std.proofs.lemmas.List.{length-set}
 use Rattle.std.proofs.lemmas.Bool.{or_parts, or_from, or_left, or_right, cases_eq}
-use Rattle.sheets.specs.Grids.{Cell, mark, is_dead, at, Grid}
-use Rattle.sheets.specs.Runs.{broken, Holds, Written}
+use Rattle.sheets.specs.Grids.{mark, is_dead, at, Grid}
+use Rattle.sheets.specs.Runs.{broken, Written}
 use Rattle.sheets.specs.Layouts.{flat}
 use Rattle.sheets.proofs.Marks.{at-get_or, at_alive, at_take, at_drop, at_set_same, at_set_other, at_ext}
 use Rattle.sheets.proofs.Places.{apart}

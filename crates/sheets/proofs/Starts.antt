@@ -1,5 +1,5 @@
 -- Where an accepted run begins and ends in memory. Assumes nothing.
-use Rattle.std.proofs.Common.{◌≡◌, ℕ, ◌+◌, ◌*◌, ◌<◌, ◌≤◌, false, [], ◌∷◌, sym, ap, arith}
+use Rattle.std.proofs.Common.{◌≡◌, ℕ, ◌+◌, ◌*◌, ◌<◌, ◌≤◌, false, [], ◌∷◌, arith}
 use Rattle.marks.specs.Refusals.{accepted, checked}
 use Rattle.sheets.specs.Runs.{overruns}
 use Rattle.sheets.proofs.Checks.{passed, answer, run_fits}

@@ -1,5 +1,5 @@
 -- Sheets that lie row by row in memory, one mark to a cell or two bytes to a cell. Assumes nothing.
-use Rattle.std.specs.Prelude.{◌≡◌, ℕ, ◌+◌, ◌*◌, Bool, not, ◌||◌, List, [], ◌∷◌, Option, ◌==◌, nat_lt, slice_index}
+use Rattle.std.specs.Prelude.{ℕ, ◌+◌, ◌*◌, Bool, not, ◌||◌, List, [], ◌∷◌, Option, ◌==◌, nat_lt, slice_index}
 use Rattle.marks.specs.Refusals.{Told, checked}
 use Rattle.sheets.specs.Grids.{Cell, Grid, cell_of, at}
 

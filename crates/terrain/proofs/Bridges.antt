@@ -1,21 +1,21 @@
 -- Routes of the ground of cells are ways of the sheet, and a flood's level is the sill. Assumes nothing.
-use Rattle.std.proofs.Common.{◌≡◌, ℕ, zero, suc, ◌+◌, ◌-◌, ◌*◌, ◌/◌, ◌%◌, ◌<◌, ◌≤◌, min, max, Bool, true, false, cond, ◌||◌, eqb, ltb, ◌⊎◌, List, [], ◌∷◌, map, length, get_or, Some, None, Option, sym, refl, ap, ◌∙◌, subst, ap₂, inl, inr, ⊎_elim, arith, le-ltb, lt-ltb, eq-eqb}
-use Rattle.std.specs.List.{range_with_len, ContainsAt as Has, slice_get}
+use Rattle.std.proofs.Common.{◌≡◌, ℕ, zero, suc, ◌+◌, ◌*◌, ◌/◌, ◌%◌, ◌<◌, ◌≤◌, Bool, true, false, cond, ◌||◌, eqb, ◌⊎◌, List, [], ◌∷◌, map, get_or, Some, None, Option, sym, refl, ap, ◌∙◌, subst, ap₂, inl, inr, ⊎_elim, arith, le-ltb, lt-ltb, eq-eqb}
+use Rattle.std.specs.List.{range_with_len}
 use Rattle.std.proofs.lemmas.List.FromFn.{length-map-range_with_len, get_or-map-range_with_len}
-use Rattle.std.proofs.lemmas.Bool.{cases_lt, cases_eq, cases_Bool, eqb-true}
+use Rattle.std.proofs.lemmas.Bool.{cases_lt, cases_Bool, eqb-true}
 use Rattle.marks.specs.Orders.{OrderLaws, highest}
-use Rattle.sheets.specs.Grids.{Cell, mark, Grid, at}
+use Rattle.sheets.specs.Grids.{Grid, at}
 use Rattle.sheets.specs.Layouts.{flat}
 use Rattle.flood.specs.Grounds.{Graph, Crosses, Route, Found, Least, Drains, Dry}
 use Rattle.flood.specs.Grounds as grounds
 use Rattle.sheets.specs.declared.copies.Place.{Place}
 use Rattle.terrain.specs.Cells.{place, Touches, InSheet, OnEdge, node_of, place_of}
-use Rattle.terrain.specs.CellGrounds.{at_edge, between, cell_crossings, cell_drain, cell_graph}
-use Rattle.terrain.specs.Terrains.{Kind, cell_at, mark_or, sheet_terrain}
+use Rattle.terrain.specs.CellGrounds.{at_edge, between, cell_drain, cell_graph}
+use Rattle.terrain.specs.Terrains.{Kind, mark_or, sheet_terrain}
 use Rattle.terrain.specs.Levels.{IsOrigin}
 use Rattle.terrain.specs.Ways.{Terrain, AtMost, Walk, Way, worst, last, IsSill}
 use Rattle.terrain.specs.Filled.{Lists, HasWay}
-use Rattle.terrain.proofs.Marks.{le_self, le_higher_right}
+use Rattle.terrain.proofs.Marks.{le_self}
 use Rattle.terrain.proofs.Walks.{first_worst, from_list, open_last}
 use Rattle.terrain.specs.CellLaws.{some_none, some_same, place_in, node_place, node_in, place_node, crossing_joins, joins_crossing}
 

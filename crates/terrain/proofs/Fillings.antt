@@ -1,5 +1,5 @@
 -- A sheet that is read, flooded, raised and written is filled. Assumes nothing.
-use Rattle.std.proofs.Common.{◌≡◌, ℕ, ◌+◌, ◌*◌, ◌<◌, ◌≤◌, Bool, true, false, cond, not, ◌&&◌, eqb, ltb, List, [], ◌∷◌, length, get_or, Some, None, Ok, Err, Option, Result, sym, refl, ap, ◌∙◌, subst, ap₂, ⊎_elim, zero-add, arith}
+use Rattle.std.proofs.Common.{◌≡◌, ℕ, ◌+◌, ◌*◌, ◌<◌, Bool, true, false, cond, not, eqb, ltb, List, [], ◌∷◌, length, get_or, Some, None, Ok, Err, Option, Result, sym, refl, ap, ◌∙◌, subst, ap₂, ⊎_elim, zero-add, arith}
 use Rattle.std.proofs.lemmas.Bool.{cases_Bool, or_from, le-ltb, eq-eqb}
 use Rattle.marks.specs.Orders.{OrderLaws, highest}
 use Rattle.sheets.specs.declared.copies.Place.{Place}
@@ -8,19 +8,19 @@ use Rattle.marks.specs.Refusals.{number, placed, Told, told, accepted, refused, 
 use Rattle.marks.specs.declared.refusal.Refusal.{Refusal}
 use Rattle.terrain.specs.declared.scratch.Scratch.{Scratch}
 use Rattle.sheets.specs.Copies.{Copied, leaving, broken_rows}
-use Rattle.sheets.specs.Grids.{Cell, mark, Grid, Side, Sided, at}
+use Rattle.sheets.specs.Grids.{mark, Grid, Side, Sided, at}
 use Rattle.sheets.specs.Layouts.{flat, bad_side, bad_sides}
 use Rattle.sheets.proofs.Checks.{passed, past, passes, fails, not_refused}
 use Rattle.flood.specs.Calls.{short}
 use Rattle.sheets.proofs.Marks.{at-get_or, one_mark}
 use Rattle.terrain.specs.Blocks.{HoldsBlock, misfits, read_block_told}
-use Rattle.terrain.specs.Cells.{place, InSheet, node_of, place_of, count_below}
+use Rattle.terrain.specs.Cells.{place, InSheet, node_of, place_of}
 use Rattle.terrain.specs.CellLaws.{place_in, node_in, place_node, node_place}
 use Rattle.terrain.specs.Fills.{other_sides, scratch_short, fill_told, dead_in, raised_from, raised, Finished, FilledSheet, SillsFill, ScratchLeft, size}
-use Rattle.terrain.specs.Filled.{Filled, HasWay}
+use Rattle.terrain.specs.Filled.{HasWay}
 use Rattle.terrain.specs.Levels.{LevelsAreSills, levels_told, new_mark, rises, Raised, risen}
 use Rattle.terrain.specs.Terrains.{Kind, cell_at, mark_or, sheet_terrain}
-use Rattle.terrain.specs.Ways.{Terrain, AtMost, Walk, Way, worst, last, IsSill}
+use Rattle.terrain.specs.Ways.{Terrain, Walk, Way, worst, last, IsSill}
 use Rattle.terrain.proofs.Marks.{le_self}
 use Rattle.terrain.proofs.Raises.{count_same}
 use Rattle.terrain.proofs.Rows.{refused_by}

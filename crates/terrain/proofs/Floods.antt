@@ -1,5 +1,5 @@
 -- What a flood of the cells of a sheet leaves. Assumes nothing.
-use Rattle.std.proofs.Common.{◌≡◌, ℕ, ◌*◌, ◌<◌, Bool, false, not, eqb, List, [], ◌∷◌, length, get_or, None, Ok, Err, Option, Result, sym, refl, ap, ◌∙◌, subst}
+use Rattle.std.proofs.Common.{◌≡◌, ℕ, ◌*◌, Bool, not, eqb, List, [], ◌∷◌, get_or, None, Ok, Err, Option, Result, ap, ◌∙◌, subst}
 use Rattle.marks.specs.declared.refusal.Refusal.{Refusal}
 use Rattle.marks.specs.Orders.{OrderLaws}
 use Rattle.marks.specs.Refusals.{Told, accepted, checked}

@@ -1,11 +1,10 @@
 -- Rows of a rectangle in a list. Assumes nothing.
-use Rattle.std.proofs.Common.{◌≡◌, ℕ, zero, suc, ◌+◌, ◌-◌, ◌*◌, ◌<◌, ◌≤◌, Bool, true, false, List, [], ◌∷◌, ◌++◌, length, take, drop, sym, refl, ap, ◌∙◌, subst, ⊎_elim, suc-add, zero-add, arith, length-drop, length-take}
+use Rattle.std.proofs.Common.{◌≡◌, ℕ, zero, suc, ◌+◌, ◌-◌, ◌*◌, ◌<◌, ◌≤◌, Bool, true, false, List, [], ◌∷◌, ◌++◌, length, take, drop, sym, refl, ap, ◌∙◌, ⊎_elim, suc-add, zero-add, arith, length-drop, length-take}
 use borrow.Rule.Slice.PartMut.{put_mid, post_of, mid_of}
 use Rattle.std.proofs.lemmas.List.{length-take-le}
 use Rattle.std.proofs.lemmas.Bool.{cases_eq}
 use Rattle.marks.specs.Refusals.{refused, checked}
 use Rattle.sheets.specs.declared.copies.Place.{Place}
-use Rattle.sheets.specs.declared.copies.Extent.{Extent}
 use Rattle.sheets.specs.Grids.{Grid, at}
 use Rattle.sheets.specs.Layouts.{flat}
 use Rattle.sheets.specs.Runs.{Holds}

@@ -1,8 +1,8 @@
 -- The sill, and the thresholds under which a node drains. Assumes nothing.
-use Rattle.std.proofs.Common.{◌≡◌, ◌↔◌, List, sym, refl, ◌∙◌, subst}
+use Rattle.std.proofs.Common.{◌≡◌, ◌↔◌, List, sym, subst}
 use Rattle.marks.specs.Orders.{OrderLaws}
-use Rattle.terrain.specs.Ways.{Terrain, AtMost, Walk, Way, worst, last, IsSill}
-use Rattle.terrain.specs.Under.{Under, Drains}
+use Rattle.terrain.specs.Ways.{Terrain, AtMost, Way, worst, last, IsSill}
+use Rattle.terrain.specs.Under.{Drains}
 use Rattle.terrain.proofs.Marks.{le_self}
 use Rattle.terrain.proofs.Walks.{from_list, to_list}
 

@@ -1,9 +1,9 @@
 -- The sills of a finite ground are its filled surface. Assumes nothing.
-use Rattle.std.proofs.Common.{◌≡◌, ℕ, zero, suc, ◌<◌, ◌≤◌, Bool, true, false, List, [], ◌∷◌, sym, refl, ap, ◌∙◌, subst, arith}
+use Rattle.std.proofs.Common.{◌≡◌, ℕ, zero, suc, ◌<◌, Bool, true, false, List, [], ◌∷◌, sym, refl, subst, arith}
 use Rattle.marks.specs.Orders.{OrderLaws}
-use Rattle.terrain.specs.Ways.{Terrain, AtMost, Walk, Way, worst, last, IsSill}
+use Rattle.terrain.specs.Ways.{Terrain, AtMost, Walk, Way, worst, IsSill}
 use Rattle.terrain.specs.Filled.{Lists, HasWay, Falls, Runs, Filled}
-use Rattle.terrain.proofs.Marks.{le_self, le_other, higher_le, higher_le_left, higher_le_right}
+use Rattle.terrain.proofs.Marks.{le_self, higher_le, higher_le_right}
 use Rattle.terrain.proofs.Walks.{first_worst}
 use Rattle.terrain.proofs.Counts.{misses, misses_lt}
 

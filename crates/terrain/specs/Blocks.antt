@@ -1,5 +1,5 @@
 -- Reading and writing a rectangle of a sheet at once, its cells row by row in a list of marks. Assumes nothing.
-use Rattle.std.specs.Prelude.{◌≡◌, ℕ, ◌+◌, ◌*◌, ◌<◌, Bool, not, List, [], ◌∷◌, length, Ok, Err, Result, ◌==◌, ◌≢◌}
+use Rattle.std.specs.Prelude.{◌≡◌, ℕ, ◌+◌, ◌*◌, ◌<◌, Bool, not, List, [], ◌∷◌, Ok, Err, Result, ◌==◌, ◌≢◌}
 use Rattle.marks.specs.declared.refusal.Refusal.{Refusal}
 use Rattle.marks.specs.Refusals.{Told, checked, number}
 use Rattle.sheets.specs.declared.copies.Place.{Place}

@@ -1,5 +1,5 @@
 -- Filling a whole sheet at once. Assumes nothing.
-use Rattle.std.specs.Prelude.{◌≡◌, ℕ, ◌*◌, Bool, false, not, ◌&&◌, ◌||◌, List, [], ◌∷◌, length, Ok, Err, Result, ◌==◌, ◌≢◌, nat_lt}
+use Rattle.std.specs.Prelude.{◌≡◌, ℕ, ◌*◌, Bool, false, not, ◌&&◌, ◌||◌, [], ◌∷◌, length, Ok, Err, Result, ◌==◌, ◌≢◌, nat_lt}
 use Rattle.marks.specs.declared.refusal.Refusal.{Refusal}
 use Rattle.marks.specs.Refusals.{Told, checked, number}
 use Rattle.sheets.specs.declared.copies.Place.{Place}

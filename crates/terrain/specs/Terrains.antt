@@ -1,8 +1,8 @@
 -- A sheet as a terrain, and what filling it gives. Assumes nothing.
-use Rattle.std.specs.Prelude.{◌≡◌, ℕ, Bool}
+use Rattle.std.specs.Prelude.{Bool}
 use Rattle.marks.specs.declared.order.Order as order
 use Rattle.sheets.specs.Grids.{Cell, mark, dead, Grid}
-use Rattle.terrain.specs.Ways.{Terrain, IsSill}
+use Rattle.terrain.specs.Ways.{Terrain}
 use Rattle.sheets.specs.declared.copies.Place.{Place}
 use Rattle.terrain.specs.Cells.{Touches, InSheet, OnEdge}
 

@@ -4,7 +4,7 @@ use Rattle.std.proofs.lemmas.Bool.{ltb-true, ltb-false, leb-true, lt-ltb, le-leb
 use Rattle.std.proofs.lemmas.Nat.{div-mul-add, mod-mul-add, div-add-mod', mul-add-lt, mul-le, div_below, mod_below}
 use Rattle.tiles.specs.declared.cuts.CutList.{CutList}
 use Rattle.tiles.specs.declared.places.Spot.{Spot}
-use Rattle.tiles.specs.Rules.{lawful, side_outside, start, band_of}
+use Rattle.tiles.specs.Rules.{side_outside, start, band_of}
 use Rattle.tiles.specs.Plans.{Plan, Lawful, Area, plan_of, abreast, tiles, tile_at, tile_of, crossing, holds, on_sheet, spot_of}
 use Rattle.tiles.specs.Laws.{Tiled}
 use Rattle.tiles.proofs.Bands.{Band, band, band_few, band_low, band_high, band_is, lawful_few, start_below, start_past}

@@ -1,5 +1,4 @@
-use Rattle.std.proofs.Common.{◌≡◌, ◌+◌, ◌-◌, ◌*◌, ◌<◌, get_or, subst, arith}
-use Rattle.grammar.specs.Decimals.{Part}
+use Rattle.std.proofs.Common.{arith}
 use Rattle.grammar.proofs.Digits.{part_more, natural_ends}
 use Rattle.grammar.proofs.natural.Goals as goal
 

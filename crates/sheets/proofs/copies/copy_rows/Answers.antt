@@ -1,5 +1,5 @@
-use Rattle.std.proofs.Common.{◌≡◌, ◌+◌, true, false, [], ◌∷◌, length, sym, refl, ap, ◌∙◌, arith}
-use Rattle.sheets.specs.Runs.{outside, broken}
+use Rattle.std.proofs.Common.{◌+◌, ap, ◌∙◌, arith}
+use Rattle.sheets.specs.Runs.{broken}
 use Rattle.sheets.proofs.Checks.{fits_run}
 use Rattle.sheets.proofs.Rectangles.{rows_whole, copied_more}
 use Rattle.sheets.proofs.copies.copy_rows.Goals as goal

@@ -1,4 +1,4 @@
-use Rattle.std.proofs.Common.{◌≡◌, false, length}
+use Rattle.std.proofs.Common.{◌≡◌, false}
 use Rattle.sheets.specs.Copies.{broken_rows}
 use Rattle.terrain.specs.Blocks.{HoldsBlock}
 use Rattle.terrain.proofs.blocks.read_rows.Given as goal

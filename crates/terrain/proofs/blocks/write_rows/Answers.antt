@@ -1,4 +1,4 @@
-use Rattle.std.proofs.Common.{◌≡◌, ◌+◌, ◌-◌, ◌*◌, ◌≤◌, length, take, drop, sym, refl, ap, ◌∙◌, arith, rules}
+use Rattle.std.proofs.Common.{◌≡◌, ◌+◌, ◌-◌, ◌*◌, ◌≤◌, length, take, drop, ap, ◌∙◌, arith, rules}
 use Rattle.terrain.proofs.Rows.{row_end, row_holds, part_length}
 use Rattle.sheets.specs.Layouts.{flat}
 use Rattle.sheets.proofs.Rectangles.{copied_more}

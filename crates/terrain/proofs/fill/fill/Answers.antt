@@ -1,9 +1,8 @@
-use Rattle.std.proofs.Common.{◌≡◌, [], length, sym, refl, ap, ◌∙◌}
+use Rattle.std.proofs.Common.{[], length, ap, ◌∙◌}
 use Rattle.marks.specs.Orders.{OrderLaws}
 use Rattle.marks.specs.Refusals.{accepted}
 use Rattle.sheets.proofs.Checks.{passes}
-use Rattle.terrain.specs.Terrains.{Kind, kind_of}
-use Rattle.terrain.specs.Fills.{size}
+use Rattle.terrain.specs.Terrains.{kind_of}
 use Rattle.terrain.proofs.Fillings.{Done, done_from, floods, none_dead, sheet_filled, raised_count}
 use Rattle.terrain.proofs.fill.fill.Goals as goal
 

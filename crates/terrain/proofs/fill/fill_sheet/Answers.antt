@@ -1,6 +1,6 @@
-use Rattle.std.proofs.Common.{◌≡◌, ℕ, ◌*◌, refl}
+use Rattle.std.proofs.Common.{◌*◌, refl}
 use Rattle.marks.specs.Orders.{OrderLaws}
-use Rattle.terrain.specs.Terrains.{Kind, kind_of}
+use Rattle.terrain.specs.Terrains.{kind_of}
 use Rattle.terrain.proofs.Fillings.{sills_fill, scratch_left, fill_differs, fill_short, fill_goes}
 use Rattle.terrain.proofs.fill.fill_sheet.Goals as goal
 

@@ -1,4 +1,4 @@
-use Rattle.std.proofs.Common.{◌≡◌, ◌*◌, length}
+use Rattle.std.proofs.Common.{◌*◌, length}
 use Rattle.terrain.specs.Terrains.{kind_of}
 use Rattle.terrain.proofs.Floods.{levels_left, origins_left, levels_told_lem}
 use Rattle.terrain.proofs.levels.flood_cells.Goals as goal

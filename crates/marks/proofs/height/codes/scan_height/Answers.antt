@@ -1,4 +1,4 @@
-use Rattle.std.proofs.Common.{◌≡◌, ℕ, suc, pred, ◌-◌, ◌<◌, ◌≤◌, length, sym, refl, ap, ◌∙◌, ⊎_elim, arith, true-eqb, false-eqb}
+use Rattle.std.proofs.Common.{◌≡◌, ℕ, suc, ◌-◌, ◌≤◌, ap, ⊎_elim, arith, true-eqb, false-eqb}
 use Rattle.std.proofs.lemmas.Fmt.{decimal_digit}
 use Rattle.grammar.specs.Decimals.{Begun}
 use Rattle.marks.specs.Spellings.{spelled_z}

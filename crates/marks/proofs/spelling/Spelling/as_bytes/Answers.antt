@@ -1,4 +1,4 @@
-use Rattle.std.proofs.Common.{◌≡◌, ◌-◌, ◌≤◌, length, drop, arith, length-drop, rules}
+use Rattle.std.proofs.Common.{◌≡◌, ◌-◌, length, drop, arith, length-drop, rules}
 use Rattle.std.proofs.lemmas.List.{take_all}
 use Rattle.marks.proofs.spelling.Spelling.as_bytes.Goals as goal
 

@@ -1,12 +1,11 @@
-use Rattle.std.proofs.Common.{◌≡◌, ℕ, ◌+◌, ◌*◌, ◌<◌, ◌≤◌, false, [], ◌∷◌, length, sym, refl, ap, ◌∙◌, arith, rules}
+use Rattle.std.proofs.Common.{ℕ, ◌+◌, ◌<◌, [], ◌∷◌, length, sym, refl, ap, arith}
 use Rattle.std.proofs.lemmas.Bool.Decides.{when_true, when_false}
-use Rattle.sheets.specs.Grids.{Cell, is_dead, cell_of, at}
+use Rattle.sheets.specs.Grids.{Cell, cell_of}
 use Rattle.sheets.specs.Layouts.{code_at, code_cell}
 use Rattle.sheets.proofs.Checks.{fails, passes}
 use Rattle.sheets.proofs.Marks.{at_fill, none_dead}
 use Rattle.sheets.proofs.Codes.{codes_unbroken, codes_broken, codes_held}
-use Rattle.sheets.proofs.Starts.{Started, started}
-use Rattle.sheets.proofs.packed.PackedSheet.read.Given as given
+use Rattle.sheets.proofs.Starts.{started}
 use Rattle.sheets.proofs.packed.PackedSheet.read.Goals as goal
 use Rattle.sheets.proofs.packed.PackedSheet.read.Goals.{in-Some, in_default}
 

@@ -1,7 +1,7 @@
-use Rattle.std.proofs.Common.{◌≡◌, ◌+◌, ◌*◌, ◌<◌, ◌≤◌, [], ◌∷◌, length, sym, refl, ap, ◌∙◌, arith, rules}
+use Rattle.std.proofs.Common.{◌≡◌, [], ◌∷◌, length, refl, ap, ◌∙◌, arith}
 use Rattle.sheets.proofs.Checks.{passes}
 use Rattle.sheets.proofs.Codes.{packing_more, packed_written}
-use Rattle.sheets.proofs.Starts.{Started, started}
+use Rattle.sheets.proofs.Starts.{started}
 use Rattle.sheets.proofs.packed.PackedWritableSheet.write.Goals as goal
 
 pub put-requires : goal.put-requires

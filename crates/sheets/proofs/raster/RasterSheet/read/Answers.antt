@@ -1,7 +1,7 @@
-use Rattle.std.proofs.Common.{◌≡◌, ◌+◌, ◌*◌, ◌≤◌, [], ◌∷◌, length, sym, refl, ap, ◌∙◌, arith, rules}
+use Rattle.std.proofs.Common.{[], ◌∷◌, length, refl, arith, rules}
 use Rattle.sheets.proofs.Checks.{passes}
 use Rattle.sheets.proofs.Spans.{read_part, flat_unbroken}
-use Rattle.sheets.proofs.Starts.{Started, started}
+use Rattle.sheets.proofs.Starts.{started}
 use Rattle.sheets.proofs.raster.RasterSheet.read.Goals as goal
 
 pub offset_bounds-self-from : goal.offset_bounds-self-from

@@ -1,7 +1,7 @@
-use Rattle.std.proofs.Common.{◌≡◌, ◌+◌, ◌*◌, ◌<◌, ◌≤◌, [], ◌∷◌, length, sym, refl, ap, ◌∙◌, arith, rules}
+use Rattle.std.proofs.Common.{◌≡◌, ◌+◌, ◌<◌, [], ◌∷◌, length, refl, ap, arith, rules}
 use Rattle.sheets.proofs.Checks.{passes}
 use Rattle.sheets.proofs.Spans.{put_more, put_written}
-use Rattle.sheets.proofs.Starts.{Started, started}
+use Rattle.sheets.proofs.Starts.{started}
 use Rattle.sheets.proofs.raster.RasterWritableSheet.write.Goals as goal
 
 pub offset_bounds-self-from : goal.offset_bounds-self-from

@@ -1,6 +1,5 @@
-use Rattle.std.proofs.Common.{◌*◌, ◌≤◌, arith}
+use Rattle.std.proofs.Common.{arith}
 use Rattle.terrain.specs.NeighbourLaws.{block, few}
-use Rattle.terrain.specs.Neighbours.{span}
 use Rattle.terrain.proofs.ground.meaning.neighbour.Goals as goal
 
 pub overflow_sub-breadth : goal.overflow_sub-breadth

@@ -1,4 +1,4 @@
-use Rattle.std.proofs.Common.{◌+◌, ◌-◌, arith}
+use Rattle.std.proofs.Common.{◌+◌, arith}
 use Rattle.tiles.specs.Plans.{plan_of}
 use Rattle.tiles.proofs.Tilings.{lawful_plan}
 use Rattle.tiles.proofs.Tilings.{side_below}

@@ -1,4 +1,4 @@
-use Rattle.std.proofs.Common.{◌≡◌, ◌+◌, ◌-◌, ◌*◌, ap, arith}
+use Rattle.std.proofs.Common.{◌≡◌, ◌+◌, ◌*◌, ap, arith}
 use Rattle.tiles.specs.Plans.{plan_of, abreast}
 use Rattle.tiles.specs.Plans.{height, width}
 use Rattle.tiles.specs.Mouths.{border, mouth_base}

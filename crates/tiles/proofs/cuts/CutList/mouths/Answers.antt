@@ -1,4 +1,4 @@
-use Rattle.std.proofs.Common.{◌-◌, ap, ◌∙◌}
+use Rattle.std.proofs.Common.{ap, ◌∙◌}
 use Rattle.tiles.specs.Plans.{plan_of}
 use Rattle.tiles.proofs.Tilings.{lawful_plan}
 use Rattle.tiles.specs.Bandings.{row_base}

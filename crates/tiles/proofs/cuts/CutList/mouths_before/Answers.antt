@@ -1,4 +1,4 @@
-use Rattle.std.proofs.Common.{◌≡◌, ◌+◌, ◌-◌, ◌*◌, sym, ap, ◌∙◌, arith}
+use Rattle.std.proofs.Common.{◌≡◌, ◌+◌, ◌*◌, sym, ap, ◌∙◌, arith}
 use Rattle.tiles.specs.Plans.{plan_of, abreast}
 use Rattle.tiles.proofs.Tilings.{lawful_plan}
 use Rattle.tiles.specs.Plans.{height, width}

@@ -1,4 +1,4 @@
-use Rattle.std.proofs.Common.{◌≡◌, ◌+◌, ◌-◌, length, ap, arith}
+use Rattle.std.proofs.Common.{◌≡◌, ◌+◌, length, ap, arith}
 use Rattle.tiles.specs.Plans.{plan_of}
 use Rattle.tiles.specs.Bandings.{row_base}
 use Rattle.tiles.proofs.Numberings.{row_none}

@@ -1,4 +1,4 @@
-use Rattle.std.proofs.Common.{◌≡◌, ℕ, ◌*◌, ◌/◌, ◌%◌, ◌<◌, ◌≤◌, length, Some, Option, sym, ap, ◌∙◌, arith}
+use Rattle.std.proofs.Common.{◌≡◌, ℕ, ◌*◌, ◌/◌, ◌%◌, ◌<◌, length, Some, Option, sym, ap, ◌∙◌, arith}
 use Rattle.terrain.specs.Neighbours.{degree, neighbour}
 use Rattle.terrain.specs.Cells.{node_of}
 use Rattle.terrain.specs.CellGrounds.{between}
