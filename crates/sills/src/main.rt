@@ -1,10 +1,10 @@
 // Fills the hollows of a sheet: reads it as text from standard input, and prints the filled sheet.
 #![tactic(auto)]
 
-use anyhow::anyhow;
 use marks::Refusal;
 use std::io;
 use std::io::{Read, Write};
+use std::process::ExitCode;
 
 mod answer;
 mod fill;
@@ -31,20 +31,20 @@ fn read_input(rt: &HostRuntime) -> io::Result<Vec<u8>> {
     Ok(bytes)
 }
 
-// Prints a refusal, and ends the process with status 1.
-fn refuse(rt: &HostRuntime, refusal: Refusal) -> anyhow::Result<()> {
+// Prints a refusal, after which the process ends with status 1.
+fn refuse(rt: &HostRuntime, refusal: Refusal) -> anyhow::Result<ExitCode> {
     let number = refusal.number();
     let place = refusal.place();
     println!(rt; "(refused {number} {place})")?;
-    Err(anyhow!("refused"))
+    Ok(ExitCode::FAILURE)
 }
 
-fn main(rt: HostRuntime) -> anyhow::Result<()> {
+fn main(rt: HostRuntime) -> anyhow::Result<ExitCode> {
     let bytes = read_input(&rt)?;
     match answer::answer(rt.alloc(), bytes.as_slice()) {
         Ok(text) => {
             rt.stdout().write_all(text.as_slice())?;
-            Ok(())
+            Ok(ExitCode::SUCCESS)
         }
         Err(refusal) => refuse(&rt, refusal),
     }
