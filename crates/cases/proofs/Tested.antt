@@ -1,12 +1,12 @@
 -- What the test says: the named marks are the sills, and the filled sheet is finished. Assumes nothing.
-use Rattle.std.proofs.Common.{◌≡◌, ℕ, zero, suc, ◌+◌, ◌*◌, ◌/◌, ◌%◌, ◌<◌, ◌≤◌, Bool, true, false, cond, not, ◌&&◌, ◌||◌, eqb, ltb, leb, ◌⊎◌, List, length, get_or, sym, refl, ap, ◌∙◌, subst, ap₂, inl, inr, ⊎_elim, arith, ltb-true, eq-eqb, ne_eqb, le-leb, leb-true}
+use Rattle.std.proofs.Common.{◌≡◌, ℕ, zero, suc, ◌+◌, ◌*◌, ◌/◌, ◌%◌, ◌<◌, ◌≤◌, Bool, true, false, cond, not, ◌&&◌, ◌||◌, eqb, ltb, leb, ◌⊎◌, List, length, get_or, sym, refl, ap, ◌∙◌, subst, inl, inr, ⊎_elim, arith, ltb-true, eq-eqb, ne_eqb, le-leb, leb-true}
 use Rattle.std.proofs.lemmas.Bool.{and_parts, and_from, cases_eq, cases_Bool}
 use Rattle.marks.specs.Orders.{OrderLaws, highest}
 use Rattle.sheets.specs.declared.copies.Place.{Place}
 use Rattle.sheets.specs.Grids.{mark, at}
 use Rattle.sheets.specs.Layouts.{flat}
 use Rattle.sheets.proofs.Marks.{at-get_or}
-use Rattle.terrain.specs.Cells.{place, Touches, InSheet, OnEdge, node_of, place_of}
+use Rattle.terrain.specs.Cells.{Touches, InSheet, OnEdge, node_of, place_of}
 use Rattle.terrain.specs.CellGrounds.{at_edge}
 use Rattle.terrain.specs.CellLaws.{place_in, node_place, node_in, place_node}
 use Rattle.terrain.specs.Terrains.{Kind, sheet_terrain}
@@ -17,7 +17,7 @@ use Rattle.terrain.proofs.Bridges.{mark_at_lem, edge_on, on_edge}
 use Rattle.terrain.proofs.Marks.{le_self, higher_le}
 use Rattle.terrain.proofs.Sills.{sill_of_lem}
 use Rattle.terrain.proofs.Walks.{open_first, raise}
-use Rattle.cases.proofs.Tests.{every, beside, mark_at, sill_at, same, edge, touch, closed_at, leads, filled_at, passes}
+use Rattle.cases.proofs.Tests.{every, beside, mark_at, sill_at, edge, touch, closed_at, leads, filled_at, passes}
 
 true_false : true ≡ false → ⊥
 true_false e = let z : ◌≡◌ {A = ℕ} 0 1 = cc in omega arith

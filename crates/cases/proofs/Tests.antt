@@ -1,5 +1,5 @@
 -- A test that the checker computes: whether given marks are the sills of a sheet. Assumes nothing.
-use Rattle.std.proofs.Common.{ℕ, zero, suc, ◌+◌, ◌*◌, ◌/◌, ◌%◌, Bool, true, false, cond, not, ◌&&◌, ◌||◌, eqb, ltb, leb, List, length, get_or}
+use Rattle.std.proofs.Common.{ℕ, zero, suc, ◌+◌, ◌*◌, ◌/◌, ◌%◌, Bool, true, cond, not, ◌&&◌, ◌||◌, eqb, ltb, leb, List, length, get_or}
 use Rattle.marks.specs.Orders.{highest}
 use Rattle.terrain.specs.CellGrounds.{at_edge}
 use Rattle.terrain.specs.Terrains.{Kind}

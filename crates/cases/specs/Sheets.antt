@@ -1,5 +1,5 @@
 -- A sheet and what filling it must give, as lists of marks. Assumes nothing.
-use Rattle.std.specs.Prelude.{ℕ, ◌<◌, List, ℤ, negsuc, int_le}
+use Rattle.std.specs.Prelude.{ℕ, List, negsuc, int_le}
 use Rattle.std.proofs.Common.{lit<}
 use Rattle.sheets.specs.Layouts.{flat}
 use Rattle.marks.specs.declared.height.Height.{Height}

@@ -1,5 +1,5 @@
 -- The worked cases: small sheets that can be checked by hand. Assumes nothing.
-use Rattle.std.specs.Prelude.{◌≡◌, ℕ, ◌^◌, ◌<◌, true, List, [], ◌∷◌, map, ℤ, pos, negsuc, Option}
+use Rattle.std.specs.Prelude.{◌≡◌, ℕ, true, List, [], ◌∷◌, ℤ, pos, negsuc}
 use Rattle.std.proofs.Common.{lit<}
 use Rattle.std.specs.List.{AllByRecursion as All}
 use Rattle.marks.specs.declared.height.Height.{Height}

@@ -8,7 +8,7 @@ use Rattle.marks.specs.Orders.{OrderLaws, highest}
 use Rattle.terrain.specs.Cells.{count_below}
 use Rattle.terrain.specs.Ways.{Terrain, AtMost, Symmetric}
 use Rattle.terrain.proofs.Marks.{le_self, le_higher_left, le_higher_right, higher_le}
-use Rattle.seams.specs.Tilings.{Tiling, Passes, Chain, stay, hop, Tiled, Inner, Tree, Searched, Meet, Spanned}
+use Rattle.seams.specs.Tilings.{Tiling, Chain, stay, hop, Tiled, Inner, Tree, Searched, Meet, Spanned}
 use Rattle.seams.specs.Joins.{Listed, Joined, same, via, NoneAbove, LowestChain, label, own_labels, Unjoined, Relabelled, MeetAt, Joining}
 use Rattle.seams.specs.Trees.{Placed, Counted, TreeOf}
 use Rattle.seams.proofs.Chains.{chain_turn, chain_raise, chain_map}

@@ -4,7 +4,7 @@ use Rattle.std.proofs.lemmas.Bool.{and_parts}
 use Rattle.sheets.specs.declared.copies.Place.{Place}
 use Rattle.sheets.specs.Grids.{Grid}
 use Rattle.tiles.specs.Plans.{Plan, Lawful, tiles, tile_at, tile_of, holds}
-use Rattle.tiles.specs.Mouths.{mouth_base, tile_mouths, mouths}
+use Rattle.tiles.specs.Mouths.{mouth_base, tile_mouths}
 use Rattle.tiles.proofs.Tilings.{tile_within}
 use Rattle.tiles.proofs.Numberings.{base_rises, base_more}
 use Rattle.tiles.proofs.Seams.{numbered}

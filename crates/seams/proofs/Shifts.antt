@@ -14,7 +14,7 @@ use Rattle.terrain.specs.CellLaws.{some_same, place_in, node_in, node_place, pla
 use Rattle.terrain.specs.Levels.{LevelsAreSills, HaveOrigins}
 use Rattle.terrain.specs.Terrains.{Kind, mark_or, sheet_terrain}
 use Rattle.terrain.specs.Under.{Under, stop, step}
-use Rattle.terrain.specs.Ways.{Terrain, AtMost, IsSill, worst}
+use Rattle.terrain.specs.Ways.{Terrain, AtMost, IsSill}
 use Rattle.terrain.proofs.Bridges.{edge_on, on_edge}
 use Rattle.terrain.proofs.Marks.{le_self}
 use Rattle.terrain.proofs.Sills.{drains_sill}

@@ -15,7 +15,7 @@ use Rattle.sheets.proofs.Checks.{passed, passes}
 use Rattle.flood.specs.Calls.{short}
 use Rattle.terrain.specs.Blocks.{HoldsBlock, misfits, read_block_told}
 use Rattle.terrain.specs.Cells.{place}
-use Rattle.terrain.specs.Levels.{LevelsAreSills, HaveOrigins, levels_told, LevelsLeft}
+use Rattle.terrain.specs.Levels.{LevelsAreSills, HaveOrigins, levels_told, LevelsLeft, OriginsLeft}
 use Rattle.terrain.specs.Terrains.{Kind}
 use Rattle.tiles.specs.Plans.{Area, height, width}
 use Rattle.tiles.specs.Mouths.{mouth_index, border}
@@ -94,10 +94,10 @@ module _ {M : Type 0} (κ : Kind M) (g : Grid M) (a : Area) (h w : ℕ) (is-h : 
       sym (λ i. broken_rows g (place a.top a.left) (is-w i) (is-h i)) ∙ (passed gone 7 [] tt tt second.1).0
 
   pub flooded_left : {X : Type 0} (marks : List M) (ls₀ ls : List (Option M)) (os₀ os : List (Option ℕ)) (hs₀ hs : List X) (r : Result (Unit {0}) Refusal) →
-      HoldsBlock g (place a.top a.left) (record { height = h; width = w }) marks → LevelsLeft κ h w marks ls₀ ls os₀ os hs₀ hs r → BlockFlooded κ g a marks ls os r
-  flooded_left marks ls₀ ls os₀ os hs₀ hs (Err e) read left = tt
-  flooded_left marks ls₀ ls os₀ os hs₀ hs (Ok u) read left = (
+      HoldsBlock g (place a.top a.left) (record { height = h; width = w }) marks → LevelsLeft κ h w marks ls₀ ls os₀ os hs₀ hs r → OriginsLeft κ h w marks ls os r → BlockFlooded κ g a marks ls os r
+  flooded_left marks ls₀ ls os₀ os hs₀ hs (Err e) read left from = tt
+  flooded_left marks ls₀ ls os₀ os hs₀ hs (Ok u) read left from = (
     subst₂ (λ y z. HoldsBlock g (place a.top a.left) (record { height = y; width = z }) marks) is-h is-w read,
     subst₂ (λ y z. LevelsAreSills κ y z marks ls) is-h is-w left.0,
-    subst₂ (λ y z. HaveOrigins κ y z marks ls os) is-h is-w left.1,
+    subst₂ (λ y z. HaveOrigins κ y z marks ls os) is-h is-w from,
   )

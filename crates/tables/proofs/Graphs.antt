@@ -1,22 +1,21 @@
 -- Tables that hold what surveys left stand for the graph of the sheet's mouths. Assumes nothing.
-use Rattle.std.proofs.Common.{◌≡◌, ℕ, suc, ◌+◌, ◌-◌, ◌<◌, ◌≤◌, min, max, Bool, true, false, ◌&&◌, ltb, leb, ◌⊎◌, ◌↔◌, List, Some, None, Option, sym, refl, ap, ◌∙◌, subst, ap₂, inl, inr, ⊎_elim, add-one, arith, lt-ltb, le-leb}
+use Rattle.std.proofs.Common.{◌≡◌, ℕ, suc, ◌+◌, ◌-◌, ◌<◌, ◌≤◌, min, max, true, false, ltb, leb, ◌⊎◌, ◌↔◌, List, Some, None, Option, sym, refl, ap, ◌∙◌, subst, ap₂, inl, inr, ⊎_elim, add-one, arith, lt-ltb, le-leb}
 use Rattle.std.specs.List.{slice_get}
 use Rattle.std.proofs.lemmas.Bool.{and_from, cases_lt, cases_Bool}
 use Rattle.marks.specs.Orders.{OrderLaws, highest}
-use Rattle.flood.specs.Grounds.{graph, Crosses, LeastWorst}
+use Rattle.flood.specs.Grounds.{Crosses, LeastWorst}
 use Rattle.sheets.specs.declared.copies.Place.{Place}
 use Rattle.sheets.specs.Grids.{Grid, mark}
-use Rattle.terrain.specs.Cells.{place, OnEdge}
+use Rattle.terrain.specs.Cells.{OnEdge}
 use Rattle.terrain.specs.CellGrounds.{at_edge}
 use Rattle.terrain.specs.Terrains.{Kind, cell_at, mark_or, sheet_terrain}
 use Rattle.terrain.specs.Ways.{IsSill}
 use Rattle.terrain.proofs.Bridges.{edge_on, on_edge, highest_swap}
 use Rattle.tiles.specs.Plans.{Plan, Lawful, tiles, tile_of}
-use Rattle.tiles.specs.Mouths.{mouths, mouth_base, pass_base, mouth_number}
+use Rattle.tiles.specs.Mouths.{mouths, mouth_base, pass_base}
 use Rattle.tiles.proofs.Tilings.{tile_exists}
 use Rattle.tiles.proofs.Seams.{numbered}
-use Rattle.seams.specs.Tilings.{Passes}
-use Rattle.seams.specs.Sheets.{Cuts, MouthOf, MouthAt, SheetTree}
+use Rattle.seams.specs.Sheets.{Cuts, MouthOf, MouthAt}
 use Rattle.seams.specs.MouthGraphs.{Linked, by_pass, by_seam, DrainsAt, MouthGraph}
 use Rattle.seams.proofs.Settles.{mouth_sill}
 use Rattle.tables.specs.declared.records.MouthRecord.{MouthRecord}

@@ -1,29 +1,27 @@
 -- The ground of mouths joins just those that are linked, whatever the tables hold. Assumes nothing.
-use Rattle.std.proofs.Common.{◌≡◌, ℕ, zero, suc, ◌+◌, ◌-◌, ◌*◌, ◌/◌, ◌%◌, ◌^◌, ◌<◌, ◌≤◌, min, max, Bool, true, false, cond, ◌&&◌, eqb, ltb, leb, ◌⊎◌, ◌↔◌, List, [], ◌∷◌, ◌++◌, length, Some, None, Option, sym, refl, ap, ◌∙◌, subst, ap₂, inl, inr, ⊎_elim, add-one, arith, length-append, ltb-false, ltb-true, le-ltb, lt-ltb, eq-eqb, ne_eqb, eqb-true, le-leb, leb-true}
+use Rattle.std.proofs.Common.{◌≡◌, ℕ, suc, ◌+◌, ◌-◌, ◌*◌, ◌/◌, ◌%◌, ◌^◌, ◌<◌, ◌≤◌, Bool, true, false, cond, ◌&&◌, eqb, ltb, leb, ◌⊎◌, [], ◌++◌, length, Some, None, Option, sym, refl, ap, ◌∙◌, subst, ap₂, inl, inr, ⊎_elim, add-one, arith, length-append, ltb-true, le-ltb, lt-ltb, eq-eqb, ne_eqb, eqb-true, le-leb, leb-true}
 use native.Mathlib.Nat.{min_comm, max_comm}
 use lib.Arith.{digits_div, digits_mod}
 use borrow.Author.Tests.{eqb-false}
 use Rattle.std.specs.List.{slice_get}
 use Rattle.std.proofs.lemmas.Nat.{mul-add-lt}
 use Rattle.std.proofs.lemmas.Bool.{and_parts, and_from, cases_lt, cases_eq, cases_Bool}
-use Rattle.flood.specs.Grounds.{Laws, Crosses}
+use Rattle.flood.specs.Grounds.{Laws}
 use Rattle.sheets.specs.declared.copies.Place.{Place}
-use Rattle.terrain.specs.Cells.{place, place_of, Touches, InSheet, OnEdge}
+use Rattle.terrain.specs.Cells.{place, Touches, InSheet}
 use Rattle.terrain.specs.CellGrounds.{at_edge}
 use Rattle.terrain.specs.Terrains.{Kind}
 use Rattle.terrain.proofs.Bridges.{edge_on, on_edge}
 use Rattle.tiles.specs.Plans.{Plan, Lawful, tiles, tile_of, tile_at, holds}
-use Rattle.tiles.specs.Mouths.{mouths, mouth_base, pass_base, tile_mouths, mouth_number, is_mouth}
-use Rattle.tiles.specs.Laws.{Numbered}
+use Rattle.tiles.specs.Mouths.{mouths, mouth_base, pass_base, tile_mouths, mouth_number}
 use Rattle.tiles.proofs.Tilings.{tile_within, tile_exists}
 use Rattle.tiles.proofs.Numberings.{base_rises, mouths_few}
 use Rattle.tiles.proofs.Seams.{numbered}
-use Rattle.tables.specs.declared.records.MouthRecord.{MouthRecord}
 use Rattle.tables.specs.declared.records.PassRecord.{PassRecord}
-use Rattle.tables.specs.Picks.{picked, first}
+use Rattle.tables.specs.Picks.{picked}
 use Rattle.tables.specs.Records.{Tables, mark_of}
-use Rattle.tables.specs.Links.{is_number, cell_of, tile_of_mouth, of_tile, around, seam_level, link_to, seam_link, seam_at, far_end, pass_link, pass_at, mouth_crossings, mouth_drain, mouth_graph, Seamed, Passed, Joins}
-use Rattle.tables.proofs.Picking.{none_some, answer, picked_short, picked_of, of_picked, first_passes, nth_left, nth_right, nth_either}
+use Rattle.tables.specs.Links.{is_number, cell_of, tile_of_mouth, of_tile, around, seam_level, link_to, seam_link, seam_at, far_end, pass_link, pass_at, mouth_crossings, mouth_drain, Seamed, Passed, Joins}
+use Rattle.tables.proofs.Picking.{none_some, picked_short, picked_of, of_picked, first_passes, nth_left, nth_right, nth_either}
 
 true_false : true ≡ false → ⊥
 true_false e = let z : ◌≡◌ {A = ℕ} 0 1 = cc in omega arith

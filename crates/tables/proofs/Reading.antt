@@ -1,5 +1,5 @@
 -- The links of a mouth by what is read of the cells around it and of the records of its tile. Assumes nothing.
-use Rattle.std.proofs.Common.{◌≡◌, ℕ, zero, suc, ◌+◌, ◌-◌, ◌<◌, ◌≤◌, min, max, Bool, true, false, cond, ◌&&◌, eqb, ltb, leb, List, length, get_or, Some, None, Option, sym, refl, ap, ◌∙◌, subst, ap₂, arith, lt-ltb, eq-eqb, ne_eqb}
+use Rattle.std.proofs.Common.{◌≡◌, ℕ, zero, suc, ◌+◌, ◌-◌, ◌<◌, ◌≤◌, Bool, true, false, cond, ◌&&◌, ltb, leb, List, length, get_or, Some, None, Option, sym, refl, ap, ◌∙◌, subst, ap₂, arith, lt-ltb, eq-eqb, ne_eqb}
 use borrow.Author.Tests.{lt-leb}
 use Rattle.std.specs.List.{slice_get}
 use Rattle.std.proofs.lemmas.Option.{slice_get_read}
@@ -15,9 +15,9 @@ use Rattle.tiles.specs.declared.places.Spot.{Spot}
 use Rattle.tables.specs.declared.records.MouthRecord.{MouthRecord}
 use Rattle.tables.specs.declared.records.PassRecord.{PassRecord}
 use Rattle.tables.specs.Records.{mark_or, mark_of}
-use Rattle.tables.specs.Links.{cell_of, tile_of_mouth, of_tile, around, seam_level, link_to, seam_link, seam_at, far_end, pass_link, pass_at}
+use Rattle.tables.specs.Links.{cell_of, tile_of_mouth, around, link_to, seam_link, seam_at, far_end, pass_link, pass_at}
 use Rattle.tables.proofs.Picking.{none_some}
-use Rattle.tables.proofs.Linked.{Around, around_of, cell_is}
+use Rattle.tables.proofs.Linked.{around_of, cell_is}
 
 some_same : {X : Type 0} (x y : X) → Some x ≡ Some y → x ≡ y
 some_same x y e = cc

@@ -1,5 +1,5 @@
 -- The sills of each case, and the next cell on a way out from each cell: with these the test is computed.
-use Rattle.std.proofs.Common.{◌≡◌, ℕ, Bool, true, false, List, [], ◌∷◌, Some, sym, refl, ap, ◌∙◌, arith, le-leb, leb-false, leb-true}
+use Rattle.std.proofs.Common.{◌≡◌, ℕ, true, false, List, [], ◌∷◌, Some, sym, refl, ap, ◌∙◌, arith, le-leb, leb-false, leb-true}
 use lib.Signed.{le_z}
 use Rattle.std.proofs.lemmas.Int.{ints}
 use Rattle.marks.specs.declared.height.Height.{Height}

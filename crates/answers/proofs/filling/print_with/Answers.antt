@@ -3,7 +3,6 @@ use Rattle.sheets.specs.Grids.{Side}
 use Rattle.sheets.specs.Layouts.{flat}
 use Rattle.answers.specs.Printed.{coded_of}
 use Rattle.answers.proofs.Outcome.{is_made, flat_live, is_filled, is_printed}
-use Rattle.answers.proofs.filling.print_with.Given as given
 use Rattle.answers.proofs.filling.print_with.Goals as goal
 
 pub returns-in_err-target : goal.returns-in_err-target

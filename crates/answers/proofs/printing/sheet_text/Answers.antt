@@ -2,7 +2,6 @@ use Rattle.std.proofs.Common.{◌≤◌, length, ◌∙◌, arith}
 use Rattle.texts.specs.Texts.{text_of}
 use Rattle.brackets.proofs.Rowwise.{measured}
 use Rattle.answers.proofs.Whole.{length_answers, writing_answers, filled_by}
-use Rattle.answers.proofs.printing.sheet_text.Given as given
 use Rattle.answers.proofs.printing.sheet_text.Goals as goal
 
 pub returns-in_err-len : goal.returns-in_err-len

@@ -1,14 +1,13 @@
-use Rattle.std.proofs.Common.{◌≡◌, ℕ, Bool, true, false, ◌||◌, List, [], ◌∷◌, length, sym, refl, ap, ◌∙◌, subst}
+use Rattle.std.proofs.Common.{◌≡◌, ℕ, List, [], ◌∷◌, length, refl, ap, ◌∙◌, subst}
 use Rattle.std.proofs.lemmas.Result.{err_from_is_err_and}
-use Rattle.marks.specs.Refusals.{Told, accepted, refused, checked}
+use Rattle.marks.specs.Refusals.{Told, accepted, checked}
 use Rattle.sheets.proofs.Checks.{passes, passed, still_refused}
 use Rattle.flood.specs.Calls.{short, Leaves}
 use Rattle.terrain.specs.Terrains.{kind_of}
-use Rattle.tiles.specs.declared.cuts.CutList.{CutList}
 use Rattle.tiles.specs.Plans.{Plan, plan_of}
 use Rattle.tiles.specs.Mouths.{mouths}
 use Rattle.tables.specs.Checks.{tables_short}
-use Rattle.tables.specs.Records.{Tables, tables}
+use Rattle.tables.specs.Records.{tables}
 use Rattle.tables.specs.Links.{mouth_graph}
 use Rattle.settling.proofs.sills.flood_mouths.Goals as goal
 

@@ -11,7 +11,7 @@ use Rattle.surveying.proofs.blocks.flood_block.Goals as goal
 
 pub returns : goal.returns
 returns g c =
-    let κ = kind_of g.Mark.Order g.Mark.Mark.lowest in
+    let κ = kind_of g.S.Mark.Order g.S.Mark.Mark.lowest in
     let m = g.S.Sheet.meaning c.args.source.now in
     let b = c.args.block.now in
     let h = c.height.result in
@@ -24,5 +24,5 @@ returns g c =
     record {
       told = passes (dead_in m (area_of b)) 7 [] tt (told c.flood_cells.result) (none_dead κ m (area_of b) h w c.height.ensures c.width.ensures (length c.args.marks.now) c.in_ok-read_block.ensures.told)
           (c.flood_cells.ensures.told ∙ floods h w (length c.read_block.new.marks) c.args.levels.now c.args.origins.now c.args.heap.now tall wide long room);
-      leaves = flooded_left κ m (area_of b) h w c.height.ensures c.width.ensures c.read_block.new.marks _ _ _ _ _ _ c.flood_cells.result c.in_ok-read_block.ensures.leaves c.flood_cells.ensures.leaves;
+      leaves = flooded_left κ m (area_of b) h w c.height.ensures c.width.ensures c.read_block.new.marks _ _ _ _ _ _ c.flood_cells.result c.in_ok-read_block.ensures.leaves c.flood_cells.ensures.leaves c.flood_cells.ensures.origins;
     }

@@ -66,7 +66,7 @@ overflow_sub-first g c =
 
 pub link_at-count-requires : goal.link_at-count-requires
 link_at-count-requires g c =
-    let κ = kind_of g.Mark.Order g.Mark.Mark.lowest in
+    let κ = kind_of g.S.Mark.Order g.S.Mark.Mark.lowest in
     let p = plan_of c.args.cuts.now in
     let t = c.args.tile in
     let m = g.S.Sheet.meaning c.args.source.now in
@@ -86,8 +86,8 @@ link_at-count-requires g c =
 
 pub returns : goal.returns
 returns g c =
-    let κ = kind_of g.Mark.Order g.Mark.Mark.lowest in
-    let O : OrderLaws κ.leb = record { total = g.met.Mark.Order.total; transitive = g.met.Mark.Order.transitive; antisymmetric = g.met.Mark.Order.antisymmetric } in
+    let κ = kind_of g.S.Mark.Order g.S.Mark.Mark.lowest in
+    let O : OrderLaws κ.leb = record { total = g.met.S.Mark.Order.total; transitive = g.met.S.Mark.Order.transitive; antisymmetric = g.met.S.Mark.Order.antisymmetric } in
     let p = plan_of c.args.cuts.now in
     let t = c.args.tile in
     let m = g.S.Sheet.meaning c.args.source.now in

@@ -1,4 +1,4 @@
-use Rattle.std.proofs.Common.{◌≡◌, ℕ, ◌+◌, ◌-◌, ◌<◌, ◌≤◌, cond, ◌&&◌, ltb, leb, List, length, get_or, Some, None, Option, sym, refl, ap, ◌∙◌, arith}
+use Rattle.std.proofs.Common.{◌≡◌, ℕ, ◌+◌, ◌-◌, ◌<◌, ◌≤◌, cond, ◌&&◌, ltb, leb, List, length, get_or, Some, None, Option, sym, ap, ◌∙◌, arith}
 use Rattle.std.specs.List.{slice_get}
 use Rattle.marks.specs.Refusals.{accepted, checked}
 use Rattle.tiles.specs.Plans.{Plan, Lawful, plan_of, tiles, tile_checks}
@@ -7,7 +7,7 @@ use Rattle.tiles.proofs.Tilings.{lawful_plan}
 use Rattle.tables.specs.Picks.{picked}
 use Rattle.tables.specs.declared.records.PassRecord.{PassRecord}
 use Rattle.tables.specs.Links.{pass_at, far_end, tile_of_mouth}
-use Rattle.tables.proofs.Picking.{Passing, passing_none, passing_some, passing_found, passing_end}
+use Rattle.tables.proofs.Picking.{passing_none, passing_some, passing_found, passing_end}
 use Rattle.tables.proofs.Reading.{tile_told, Records, records, pass_read}
 use Rattle.settling.proofs.ground.meaning.nth_pass.Goals as goal
 use Rattle.settling.proofs.ground.meaning.nth_pass.Goals.{in-Some+else-left-eq0, in_default-pass_link}

@@ -2,7 +2,7 @@ use Rattle.std.proofs.Common.{sym, ◌∙◌, arith}
 use Rattle.terrain.specs.Terrains.{kind_of}
 use Rattle.tiles.specs.Plans.{plan_of}
 use Rattle.tables.specs.Links.{seam_at}
-use Rattle.tables.proofs.Picking.{Passing, passing_none, passing_some, passing_found, passing_end}
+use Rattle.tables.proofs.Picking.{passing_none, passing_some, passing_found, passing_end}
 use Rattle.settling.proofs.ground.meaning.nth_seam.Goals as goal
 use Rattle.settling.proofs.ground.meaning.nth_seam.Goals.{in-Some+else-left-eq0, in_default}
 

@@ -7,7 +7,7 @@ use Rattle.tiles.specs.Mouths.{mouth_number, mouths}
 use Rattle.tiles.specs.declared.places.Mouth.{Mouth}
 use Rattle.tiles.proofs.Tilings.{side_below}
 use Rattle.tiles.proofs.Seams.{numbered}
-use Rattle.tables.specs.Links.{around, link_to, seam_level}
+use Rattle.tables.specs.Links.{around, link_to}
 use Rattle.tables.proofs.Linked.{number_in}
 use Rattle.tables.proofs.Reading.{seam_outside, seam_spot, seam_inside, seam_over}
 use Rattle.settling.specs.Grounds.{Stands}

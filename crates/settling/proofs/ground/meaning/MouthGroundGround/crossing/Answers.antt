@@ -1,8 +1,8 @@
-use Rattle.std.proofs.Common.{◌≡◌, ℕ, ◌+◌, ◌-◌, List, ◌++◌, length, Some, None, Option, sym, ap, ◌∙◌}
+use Rattle.std.proofs.Common.{◌≡◌, ℕ, ◌+◌, ◌-◌, ◌++◌, length, Some, Option, sym, ap, ◌∙◌}
 use Rattle.std.specs.List.{slice_get}
 use Rattle.terrain.specs.Terrains.{Kind, kind_of}
 use Rattle.tiles.specs.Plans.{Plan, Lawful, plan_of, tile_of}
-use Rattle.tiles.specs.Mouths.{mouths, mouth_number, tile_mouths}
+use Rattle.tiles.specs.Mouths.{mouth_number, tile_mouths}
 use Rattle.tiles.proofs.Tilings.{lawful_plan, tile_exists}
 use Rattle.tiles.proofs.Seams.{numbered}
 use Rattle.tables.specs.Picks.{picked}
