@@ -1,7 +1,7 @@
 -- A ring keeps the laws of a ground. Assumes nothing.
-use Rattle.std.specs.Prelude.{◌≡◌, ℕ, ◌+◌, ◌-◌, ◌^◌, ◌<◌, ◌≤◌, Bool, true, false, cond, ltb, leb, ◌⊎◌, List, [], length, Some, None, nat_le, nat_lt, slice_index_or}
+use Rattle.std.specs.Prelude.{◌≡◌, ℕ, ◌+◌, ◌-◌, ◌^◌, ◌<◌, ◌≤◌, Bool, true, false, cond, ltb, leb, List, [], length, Some, None, nat_le, nat_lt, slice_index_or}
 use Rattle.std.proofs.Common.{sym, ap, subst, ◌∙◌, ⊎_elim, arith, lit<, ltb-true, leb-true, lt-ltb, le-ltb}
-use Rattle.std.specs.List.{AllByRecursion as All, slice_get}
+use Rattle.std.specs.List.{AllByRecursion, slice_get}
 use Rattle.std.proofs.lemmas.Option.{slice_get_past}
 use Rattle.std.proofs.lemmas.Bool.{cases_Bool, cases_lt, cond-true, cond-false, cond_both, le-leb}
 use Rattle.flood.specs.Grounds.{Laws}
@@ -70,7 +70,7 @@ module _ {M : Type 0} (void : M) (n near wide : ℕ) (nears wides : List M) wher
   back_at : (u v k : ℕ) (w : M) → Fitting n near wide v → slice_get (joins void n near wide nears wides v) k ≡ Some (u, w) → Matched u (v, w)
   back_at u v k w f is = (f.node, (k, ap (λ l. slice_get l k) (read_joins v f) ∙ is))
 
-  matched : (u : ℕ) → Fitting n near wide u → All (Matched u) (joins void n near wide nears wides u)
+  matched : (u : ℕ) → Fitting n near wide u → AllByRecursion (Matched u) (joins void n near wide nears wides u)
   matched u f =
       let to = turn n near u in
       let from = turn n (n - near) u in

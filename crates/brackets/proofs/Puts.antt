@@ -6,7 +6,7 @@ use Rattle.std.proofs.lemmas.List.{take_at, drop_at, drop-drop, length-take-le, 
 use Rattle.std.proofs.lemmas.Slice.{put_mid-paste}
 use Rattle.std.proofs.lemmas.List.FromFn.{map-range_with_len_more, fill_by_all, length-map-range_with_len, get_or-map-range_with_len}
 use Rattle.std.proofs.lemmas.Fmt.{length-decimal-le}
-use Rattle.sheets.specs.Grids.{Grid, mark, at, Side}
+use Rattle.sheets.specs.Grids.{Grid, at, Side}
 use Rattle.sheets.specs.Runs.{Holds}
 use Rattle.texts.specs.Texts.{spaced, together, spell, head_line, row_line, text_of}
 use Rattle.texts.proofs.Whole.{row_words}

@@ -1,7 +1,7 @@
 -- The worked cases: small sheets that can be checked by hand. Assumes nothing.
 use Rattle.std.specs.Prelude.{◌≡◌, ℕ, true, List, [], ◌∷◌, ℤ, pos, negsuc}
 use Rattle.std.proofs.Common.{lit<}
-use Rattle.std.specs.List.{AllByRecursion as All}
+use Rattle.std.specs.List.{AllByRecursion}
 use Rattle.marks.specs.declared.height.Height.{Height}
 use Rattle.marks.specs.declared.class.Class.{Class}
 use Rattle.marks.specs.declared.class.Class.TheVariants.{Open, Strip, Wet}
@@ -129,4 +129,4 @@ cases =
 
 -- every one of them holds
 abbrev pub CasesHold : Type 0
-CasesHold = All Says cases
+CasesHold = AllByRecursion Says cases

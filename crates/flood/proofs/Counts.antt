@@ -1,6 +1,6 @@
 -- How often a node waits. Assumes nothing.
 use Rattle.std.proofs.Common.{◌≡◌, ℕ, zero, suc, ◌+◌, ◌<◌, ◌≤◌, cond, eqb, List, [], ◌∷◌, length, get_or, set, Some, None, Option, sym, refl, ap, ◌∙◌, subst, ⊎_elim, arith}
-use Rattle.std.specs.List.{AllByRecursion as All, slice_get}
+use Rattle.std.specs.List.{AllByRecursion, slice_get}
 use Rattle.std.specs.List.Sorted.{IsPermutation}
 use Rattle.std.proofs.lemmas.Option.{slice_get_past, slice_get-get_or}
 use Rattle.std.proofs.lemmas.List.Sorted.{sum_by-IsPermutation}
@@ -26,7 +26,7 @@ nth_ended (x ∷ xs) (suc i) is = omega (arith, nth_ended xs i is)
 pub nth_is : {A : Type 0} (xs : List A) (i : ℕ) (x d : A) → slice_get xs i ≡ Some x → get_or xs i d ≡ x
 nth_is xs i x d is = some_same (slice_get xs i) (get_or xs i d) x (slice_get-get_or xs i d (nth_inside xs i x is)) is
 
-pub all_nth : {A : Type 0} (P : A → Type 0) (xs : List A) (i : ℕ) (x : A) → All P xs → slice_get xs i ≡ Some x → P x
+pub all_nth : {A : Type 0} (P : A → Type 0) (xs : List A) (i : ℕ) (x : A) → AllByRecursion P xs → slice_get xs i ≡ Some x → P x
 all_nth P [] i x all is = absurd (none_some None x refl is)
 all_nth P (y ∷ xs) zero x all is = subst P (some_same (Some y) y x refl is) all.0
 all_nth P (y ∷ xs) (suc i) x all is = all_nth P xs i x all.1 is
@@ -40,11 +40,11 @@ times_no v x q ne = sum_by-cons (λ y. cond (eqb y.node v) 1 0) x q ∙ ap (λ n
 pub times_shuffled : {M : Type 0} (v : ℕ) (xs ys : List (Entry M)) → IsPermutation xs ys → times v ys ≡ times v xs
 times_shuffled v xs ys h = sum_by-IsPermutation (λ y. cond (eqb y.node v) 1 0) xs ys h
 
-pub times_none : {M : Type 0} (v : ℕ) (q : List (Entry M)) → All (λ x. x.node ≡ v → ⊥) q → times v q ≡ 0
+pub times_none : {M : Type 0} (v : ℕ) (q : List (Entry M)) → AllByRecursion (λ x. x.node ≡ v → ⊥) q → times v q ≡ 0
 times_none v [] h = refl
 times_none v (x ∷ q) h = times_no v x q h.0 ∙ times_none v q h.1
 
-pub times_apart : {M : Type 0} (v : ℕ) (q : List (Entry M)) → times v q ≡ 0 → All (λ x. x.node ≡ v → ⊥) q
+pub times_apart : {M : Type 0} (v : ℕ) (q : List (Entry M)) → times v q ≡ 0 → AllByRecursion (λ x. x.node ≡ v → ⊥) q
 times_apart v [] h = tt
 times_apart v (x ∷ q) h =
     let ne : x.node ≡ v → ⊥ = λ e. omega (arith, times_yes v x q e) in
@@ -87,12 +87,12 @@ times_set {M} v q i x y is e =
     let equal : f (get_or q i y) ≡ f x = ap f there ∙ ap (λ n. cond (eqb n v) 1 0) e in
     omega (arith, sum_by-set f q i x y (nth_inside q i y is), equal)
 
-pub all_from_nth : {A : Type 0} (P : A → Type 0) (xs : List A) → ((i : ℕ) (x : A) → slice_get xs i ≡ Some x → P x) → All P xs
+pub all_from_nth : {A : Type 0} (P : A → Type 0) (xs : List A) → ((i : ℕ) (x : A) → slice_get xs i ≡ Some x → P x) → AllByRecursion P xs
 all_from_nth P [] f = tt
 all_from_nth P (x ∷ xs) f = (f 0 x refl, all_from_nth P xs (λ i. f (suc i)))
 
 -- what holds of the nodes that wait holds of the same nodes in another order
-pub all_times : {M : Type 0} (P : ℕ → Type 0) (q q' : List (Entry M)) → ((v : ℕ) → times v q' ≡ times v q) → All (λ x. P x.node) q' → All (λ x. P x.node) q
+pub all_times : {M : Type 0} (P : ℕ → Type 0) (q q' : List (Entry M)) → ((v : ℕ) → times v q' ≡ times v q) → AllByRecursion (λ x. P x.node) q' → AllByRecursion (λ x. P x.node) q
 all_times P q q' same all = all_from_nth (λ x. P x.node) q (λ i x is.
     let more : 0 < times x.node q' = omega (arith, same x.node, times_some x.node q i x is refl) in
     let r = times_found x.node q' more in

@@ -1,7 +1,7 @@
 -- Elements that rise and sink in a heap. Assumes nothing.
 use Rattle.std.proofs.Common.{◌≡◌, ℕ, zero, suc, ◌+◌, ◌-◌, ◌*◌, ◌/◌, ◌<◌, ◌≤◌, min, Bool, true, false, ◌⊎◌, List, [], ◌∷◌, ◌++◌, length, get_or, take, set, Some, None, sym, refl, ap, ◌∙◌, subst, inl, inr, arith, length-take}
 use Rattle.std.specs.List.Sorted.{IsPermutation}
-use Rattle.std.specs.List.{AllByRecursion as All, slice_get}
+use Rattle.std.specs.List.{AllByRecursion, slice_get}
 use Rattle.std.proofs.lemmas.List.{set-set, set_comm, length-set, get_or-take, get_or-set_same, get_or-set_other, length-take-le, take_more, take_more_set}
 use Rattle.std.proofs.lemmas.Option.{slice_get-get_or, slice_get_past}
 use Rattle.std.proofs.lemmas.List.Edits.{swap_is}
@@ -341,6 +341,6 @@ module _ {X : Type 0} (le : X → X → Bool) where
           (λ u. tr _ _ _ (top xs n d h fuel ((k - 1) / 2) (omega arith) (omega arith)) (h ((k - 1) / 2) k d (omega arith) (omega arith) b))
 
       -- the first of a heap is at most each element
-      pub least : (xs : List X) (n : ℕ) (d : X) → n ≤ length xs → Ordered le xs n → All (λ y. le (get_or xs 0 d) y ≡ true) (take n xs)
+      pub least : (xs : List X) (n : ℕ) (d : X) → n ≤ length xs → Ordered le xs n → AllByRecursion (λ y. le (get_or xs 0 d) y ≡ true) (take n xs)
       least xs n d in' h = All-from_get_or (λ y. le (get_or xs 0 d) y ≡ true) (take n xs) d
           (λ i p. let q : i < n = omega (arith, length-take-le n xs in') in by _ _ _ _ refl (get_or-take n xs i d q) (top xs n d h i i (omega arith) q))

@@ -1,6 +1,6 @@
 -- The steps of a flood keep what holds while it goes on. Assumes nothing.
 use Rattle.std.proofs.Common.{◌≡◌, ℕ, suc, ◌+◌, ◌<◌, ◌≤◌, true, false, List, [], ◌∷◌, ◌++◌, length, get_or, take, drop, set, Some, None, Option, sym, refl, ap, ◌∙◌, subst, inl, inr, ⊎_elim, arith, get_or-set_other, get_or-set_same}
-use Rattle.std.specs.List.{AllByRecursion as All, slice_get}
+use Rattle.std.specs.List.{AllByRecursion, slice_get}
 use Rattle.std.specs.List.Sorted.{IsPermutation}
 use Rattle.std.proofs.ByRecursion.{All-weaker, all_shuffled}
 use Rattle.std.proofs.lemmas.List.{set_split, set-get_or}
@@ -17,7 +17,7 @@ use Rattle.flood.proofs.Laws.{Lawful}
 use Rattle.flood.proofs.Routes.{leb_refl, higher_right, extended}
 
 -- what holds of each element by two facts
-pub all_both : {X : Type 0} (P Q R : X → Type 0) → ((x : X) → P x → Q x → R x) → (xs : List X) → All P xs → All Q xs → All R xs
+pub all_both : {X : Type 0} (P Q R : X → Type 0) → ((x : X) → P x → Q x → R x) → (xs : List X) → AllByRecursion P xs → AllByRecursion Q xs → AllByRecursion R xs
 all_both P Q R f [] a b = tt
 all_both P Q R f (x ∷ xs) a b = (f x a.0 b.0, all_both P Q R f xs a.1 b.1)
 
@@ -94,7 +94,7 @@ module _ {M : Type 0} {g : Graph M} (laws : Lawful g) where
       → y.node < length ls → (y.node ≡ x.node → ⊥)
       → ((k : M) → get_or ls y.node None ≡ Some k → g.leb y.level k ≡ true)
       → Reached g y.node y.level y.origin
-      → All (Waits g ls) rest → All (λ z. g.leb x.level z.level ≡ true) rest
+      → AllByRecursion (Waits g ls) rest → AllByRecursion (λ z. g.leb x.level z.level ≡ true) rest
       → times y.node rest ≡ 0 → ((v : ℕ) → (v ≡ y.node → ⊥) → times v q ≡ times v rest)
       → IsPermutation (y ∷ rest) q'
       → Spreading g x (j + 1) (set ls y.node (Some y.level)) os q'
@@ -176,7 +176,7 @@ module _ {M : Type 0} {g : Graph M} (laws : Lawful g) where
 
   -- the entry of a node has its level
   pub entries_level : {x : Entry M} {j : ℕ} {ls : List (Option M)} {os : List (Option ℕ)} {q : List (Entry M)} → (far : ℕ) (k c : M) → Spreading g x j ls os q
-      → get_or ls far None ≡ Some k → g.leb k c ≡ false → All (λ z. z.node ≡ far → g.leb z.level c ≡ false) q
+      → get_or ls far None ≡ Some k → g.leb k c ≡ false → AllByRecursion (λ z. z.node ≡ far → g.leb z.level c ≡ false) q
   entries_level {ls = ls} {q = q} far k c s lv strict = All-weaker (Waits g ls) (λ z. z.node ≡ far → g.leb z.level c ≡ false)
       (λ z h e. rw (some_same (get_or ls far None) z.level k (rw e at h.1) lv) strict) q s.waiting
 
@@ -209,7 +209,7 @@ module _ {M : Type 0} {g : Graph M} (laws : Lawful g) where
 
   -- a turn begins with a lowest entry, whose origin is written
   pub begun : {ls : List (Option M)} {os : List (Option ℕ)} {q : List (Entry M)} → (os' : List (Option ℕ)) (x : Entry M) (rest : List (Entry M)) → Going g ls os q
-      → IsPermutation q (x ∷ rest) → All (λ y. g.leb x.level y.level ≡ true) q → g.nodes ≤ length os → Kept (set os x.node (Some x.origin)) os' rest → Spreading g x 0 ls os' rest
+      → IsPermutation q (x ∷ rest) → AllByRecursion (λ y. g.leb x.level y.level ≡ true) q → g.nodes ≤ length os → Kept (set os x.node (Some x.origin)) os' rest → Spreading g x 0 ls os' rest
   begun {ls} {os} {q} os' x rest s out least long kept =
       let waits = all_shuffled (Waits g ls) q (x ∷ rest) out s.waiting in
       let in-os : x.node < length os = omega (arith, waits.0.0) in

@@ -1,7 +1,7 @@
 -- What the contracts of `Heap` cite. Assumes nothing.
 use Rattle.std.specs.Prelude.{◌≡◌, ℕ, ◌+◌, ◌<◌, ◌≤◌, Bool, true, not, ◌⊎◌, List, ◌∷◌, length, take, Some, None, Ok, Err, Option, Result, nat_le, slice_set}
 use Rattle.std.specs.List.Sorted.{IsPermutation}
-use Rattle.std.specs.List.{AllByRecursion as All, slice_get}
+use Rattle.std.specs.List.{AllByRecursion, slice_get}
 use Rattle.flood.specs.Orders.{Ordered, Above}
 use Rattle.flood.specs.declared.heap.Heap.{Heap}
 
@@ -46,7 +46,7 @@ module _ {X : Type 0} where
   -- what was taken is at most each element
   abbrev pub LeastOf : (X → X → Bool) → Heap X → Option X → Type 0
   LeastOf le h None = Unit {0}
-  LeastOf le h (Some x) = All (λ y. le x y ≡ true) (contents h)
+  LeastOf le h (Some x) = AllByRecursion (λ y. le x y ≡ true) (contents h)
 
   -- what `lower` leaves: x in the place of another element, or after a refusal the same heap
   abbrev pub Lowered : {F : Type 0} → Heap X → ℕ → X → Result Unit F → Heap X → Type 0

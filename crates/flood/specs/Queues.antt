@@ -1,7 +1,7 @@
 -- What the contracts of `Queue` cite. Assumes nothing.
 use Rattle.std.specs.Prelude.{◌≡◌, ℕ, ◌+◌, ◌<◌, ◌≤◌, Bool, true, ◌⊎◌, List, ◌∷◌, length, drop, Some, None, count_by, Option, ◌≢◌, nat_eq, slice_index_or, slice_set}
 use Rattle.std.specs.List.Sorted.{IsPermutation}
-use Rattle.std.specs.List.{AllByRecursion as All, slice_get}
+use Rattle.std.specs.List.{AllByRecursion, slice_get}
 use Rattle.flood.specs.Entries.{before}
 use Rattle.flood.specs.Heaps.{Sound, contents, room}
 use Rattle.flood.specs.Orders.{Above}
@@ -32,7 +32,7 @@ Noted {M} os q k os' =
 
 -- each node waits once at most, and its slot exists
 pub record Single {M : Type 0} (os : List (Option ℕ)) (q : List (Entry M)) : Type 0 where
-  pub within : All (λ x. x.node < length os) q
+  pub within : AllByRecursion (λ x. x.node < length os) q
   pub once : (v : ℕ) → times v q ≤ 1
 
 -- the queue is in order, each node waits once at most, and if places are kept they are right
@@ -44,7 +44,7 @@ pub record Ready {M : Type 0} (leb : M → M → Bool) (os : List (Option ℕ)) 
 -- the slots of nodes that do not wait in q hold what they held, and so do those past all nodes that do
 pub record Kept {M : Type 0} (os os' : List (Option ℕ)) (q : List (Entry M)) : Type 0 where
   pub same : (v : ℕ) → times v q ≡ 0 → slice_index_or os' v None ≡ slice_index_or os v None
-  pub rest : (n : ℕ) → All (λ x. x.node < n) q → drop n os' ≡ drop n os
+  pub rest : (n : ℕ) → AllByRecursion (λ x. x.node < n) q → drop n os' ≡ drop n os
   pub long : length os' ≡ length os
 
 -- one entry more waits
@@ -57,7 +57,7 @@ pub record Joined {M : Type 0} (s : Queue M) (x : Entry M) (s' : Queue M) : Type
 abbrev pub Left : {M : Type 0} → (M → M → Bool) → Queue M → List (Option ℕ) → Option (Entry M) → Queue M → List (Option ℕ) → Type 0
 Left leb s os None s' os' = (length (waiting s) ≡ 0) × (s' ≡ s) × (os' ≡ os)
 Left leb s os (Some x) s' os' =
-    IsPermutation (waiting s) (x ∷ waiting s') × All (λ y. leb x.level y.level ≡ true) (waiting s)
+    IsPermutation (waiting s) (x ∷ waiting s') × AllByRecursion (λ y. leb x.level y.level ≡ true) (waiting s)
     × (s.heap.len ≡ s'.heap.len + 1) × (room s'.heap ≡ room s.heap)
     × Kept (slice_set os x.node (Some x.origin)) os' (waiting s')
 

@@ -1,6 +1,6 @@
 -- What holds while a flood goes on. Assumes nothing.
 use Rattle.std.specs.Prelude.{◌≡◌, ℕ, ◌+◌, ◌<◌, ◌≤◌, Bool, true, false, not, ◌⊎◌, List, take, is_some, Some, None, count_by, Option, ◌≢◌, slice_index_or}
-use Rattle.std.specs.List.{AllByRecursion as All, slice_get}
+use Rattle.std.specs.List.{AllByRecursion, slice_get}
 use Rattle.marks.specs.Orders.{highest}
 use Rattle.flood.specs.Grounds.{Graph, Drains}
 use Rattle.flood.specs.Heaps.{room}
@@ -38,16 +38,16 @@ Waits g ls x = (x.node < g.nodes) × (slice_index_or ls x.node None ≡ Some x.l
 -- between two turns: a node with a level waits, or has passed its level on
 pub record Going {M : Type 0} (g : Graph M) (ls : List (Option M)) (os : List (Option ℕ)) (q : List (Entry M)) : Type 0 where
   pub cells : (v : ℕ) → v < g.nodes → times v q ≡ 0 → Cell g v (slice_index_or ls v None) (slice_index_or os v None)
-  pub waiting : All (Waits g ls) q
+  pub waiting : AllByRecursion (Waits g ls) q
   pub once : (v : ℕ) → times v q ≤ 1
-  pub settled : (v : ℕ) (k : M) → v < g.nodes → slice_index_or ls v None ≡ Some k → (times v q ≡ 1) ⊎ (All (λ x. g.leb k x.level ≡ true) q × Passed g ls v k)
+  pub settled : (v : ℕ) (k : M) → v < g.nodes → slice_index_or ls v None ≡ Some k → (times v q ≡ 1) ⊎ (AllByRecursion (λ x. g.leb k x.level ≡ true) q × Passed g ls v k)
 
 -- in the turn of the node of x, which has passed its level on at its first j crossings
 pub record Spreading {M : Type 0} (g : Graph M) (x : Entry M) (j : ℕ) (ls : List (Option M)) (os : List (Option ℕ)) (q : List (Entry M)) : Type 0 where
   pub source : Waits g ls x
   pub cells : (v : ℕ) → v < g.nodes → times v q ≡ 0 → Cell g v (slice_index_or ls v None) (slice_index_or os v None)
-  pub waiting : All (Waits g ls) q
-  pub above : All (λ y. g.leb x.level y.level ≡ true) q
+  pub waiting : AllByRecursion (Waits g ls) q
+  pub above : AllByRecursion (λ y. g.leb x.level y.level ≡ true) q
   pub once : (v : ℕ) → times v q ≤ 1
   pub others : (v : ℕ) (k : M) → v < g.nodes → slice_index_or ls v None ≡ Some k → (v ≢ x.node) → (times v q ≡ 1) ⊎ ((g.leb k x.level ≡ true) × Passed g ls v k)
   pub passed : (i v : ℕ) (w : M) → i < j → slice_get (g.crossings x.node) i ≡ Some (v, w) → Met g ls v (highest g.leb w x.level)
@@ -55,7 +55,7 @@ pub record Spreading {M : Type 0} (g : Graph M) (x : Entry M) (j : ℕ) (ls : Li
 -- at the start, with the nodes below i looked at: each that drains waits
 pub record Filling {M : Type 0} (g : Graph M) (i : ℕ) (ls : List (Option M)) (os : List (Option ℕ)) (q : List (Entry M)) : Type 0 where
   pub cells : (v : ℕ) → v < i → times v q ≡ 0 → Cell g v (slice_index_or ls v None) (slice_index_or os v None)
-  pub waiting : All (λ x. (x.node < i) × (slice_index_or ls x.node None ≡ Some x.level) × Reached g x.node x.level x.origin) q
+  pub waiting : AllByRecursion (λ x. (x.node < i) × (slice_index_or ls x.node None ≡ Some x.level) × Reached g x.node x.level x.origin) q
   pub once : (v : ℕ) → times v q ≤ 1
   pub queued : (v : ℕ) (k : M) → v < i → slice_index_or ls v None ≡ Some k → times v q ≡ 1
 

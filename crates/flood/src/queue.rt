@@ -1,6 +1,6 @@
 // The nodes that wait, in a heap of entries.
 ghost use Rattle.std.specs.Prelude.{◌≡◌, ℕ, ◌<◌, true, false, List, [], length, Option};
-ghost use Rattle.std.specs.List.{AllByRecursion as All};
+ghost use Rattle.std.specs.List.{AllByRecursion};
 ghost use Rattle.flood.specs.Heaps.{contents, room};
 ghost use Rattle.flood.specs.Queues.{times, waiting, Noted, Placed, HalfPlaced, Single, Ready, Kept, Joined, Left, Replaced};
 
@@ -125,7 +125,7 @@ impl<'a, M: Mark> Queue<'a, M> {
     pub(crate) fn lower(&mut self, origins: &mut [Option<usize>], x: Entry<M>)
         requires ready { Ready M.Order.leb origins.old self.old }
         requires waits { times x.node (waiting self.old) ≡ 1 }
-        requires falls { All (λ y. y.node ≡ x.node → M.Order.leb y.level x.level ≡ false) (waiting self.old) }
+        requires falls { AllByRecursion (λ y. y.node ≡ x.node → M.Order.leb y.level x.level ≡ false) (waiting self.old) }
         ensures ready { Ready M.Order.leb origins.new self.new }
         ensures leaves { Replaced self.old x self.new }
         ensures kept { Kept origins.old origins.new (waiting self.new) }

@@ -1,7 +1,7 @@
 -- The sample ground keeps the laws of a ground. Assumes nothing.
 use Rattle.std.specs.Prelude.{◌≡◌, ℕ, zero, suc, ◌^◌, ◌<◌, length, Some, None, refl}
 use Rattle.std.proofs.Common.{lit<}
-use Rattle.std.specs.List.{AllByRecursion as All, slice_get}
+use Rattle.std.specs.List.{AllByRecursion, slice_get}
 use Rattle.flood.specs.Grounds.{Laws}
 use Rattle.flood.proofs.Counts.{all_nth, none_some}
 use Rattle.ponds.specs.Ponds.{joined, outlet}
@@ -11,7 +11,7 @@ module _ {M : Type 0} (low mid high : M) where
   abbrev Matched : ℕ → ℕ × M → Type 0
   Matched u p = (p.0 < 5) × ((k : ℕ) × (slice_get (joined low mid high p.0) k ≡ Some (u, p.1)))
 
-  matched : (u : ℕ) → All (Matched u) (joined low mid high u)
+  matched : (u : ℕ) → AllByRecursion (Matched u) (joined low mid high u)
   matched zero = ((lit< tt, (0, refl)), ((lit< tt, (0, refl)), tt))
   matched (suc zero) = ((lit< tt, (0, refl)), ((lit< tt, (1, refl)), ((lit< tt, (0, refl)), tt)))
   matched (suc (suc zero)) = ((lit< tt, (1, refl)), ((lit< tt, (1, refl)), tt))

@@ -4,7 +4,7 @@ ghost use Rattle.marks.specs.Refusals.{told, checked};
 ghost use Rattle.terrain.specs.Fills.{scratch_short, ScratchLeft, SameLoans};
 ghost use Rattle.terrain.specs.Terrains.{kind_of};
 ghost use Rattle.tiles.specs.Plans.{plan_of};
-ghost use Rattle.tiles.specs.Mouths.{mouths as allMouths};
+ghost use Rattle.tiles.specs.Mouths.{mouths as all_mouths};
 ghost use Rattle.tables.specs.Records.{tables};
 ghost use Rattle.settling.specs.Sills.{SettlesSheets};
 ghost use Rattle.round.specs.Settles.{settle_told, SettleLeaves};

@@ -2,7 +2,7 @@
 ghost use Rattle.std.specs.Prelude.{◌≡◌, ◌≤◌, length, IfOk};
 ghost use Rattle.marks.specs.Refusals.{told, answered};
 ghost use Rattle.tiles.specs.Plans.{plan_of};
-ghost use Rattle.tiles.specs.Mouths.{mouths as allMouths, passes as allPasses};
+ghost use Rattle.tiles.specs.Mouths.{mouths as all_mouths, passes as all_passes};
 ghost use Rattle.tables.specs.Checks.{tables_told};
 
 use marks::Refusal;
@@ -18,8 +18,8 @@ pub struct MouthGround<'a, 'b, M> {
     cuts: CutList,
     mouths: &'a [MouthRecord<M>],
     passes: &'b [PassRecord<M>],
-    ghost marked: { allMouths (plan_of cuts) ≤ length mouths.now },
-    ghost passed: { allPasses (plan_of cuts) ≤ length passes.now },
+    ghost marked: { all_mouths (plan_of cuts) ≤ length mouths.now },
+    ghost passed: { all_passes (plan_of cuts) ≤ length passes.now },
 }
 
 impl<'a, 'b, M> MouthGround<'a, 'b, M> {

@@ -1,5 +1,5 @@
 -- The records of a tile whose marks were kept and whose mouths were linked. Assumes nothing.
-use Rattle.std.proofs.Common.{◌≡◌, ℕ, zero, suc, ◌+◌, ◌-◌, ◌*◌, ◌<◌, ◌≤◌, Bool, true, false, cond, not, ◌&&◌, eqb, ltb, ◌⊎◌, ◌↔◌, List, [], ◌∷◌, ◌++◌, map, length, get_or, take, drop, Some, None, Option, sym, refl, ap, ◌∙◌, subst, ap₂, subst₂, inl, inr, ⊎_elim, arith, length-append, length-drop, length-take}
+use Rattle.std.proofs.Common.{◌≡◌, ℕ, zero, suc, ◌+◌, ◌-◌, ◌<◌, ◌≤◌, Bool, true, false, cond, ◌&&◌, eqb, ltb, ◌⊎◌, List, [], ◌∷◌, ◌++◌, map, length, get_or, take, drop, Some, None, Option, sym, refl, ap, ◌∙◌, subst, inl, inr, ⊎_elim, arith, length-append, length-drop, length-take}
 use borrow.Rule.Slice.PartMut.{put_mid}
 use Rattle.std.specs.List.{ContainsAt as Has, slice_get}
 use Rattle.std.proofs.ByRecursion.{has_get_or}
@@ -11,7 +11,7 @@ use Rattle.flood.specs.Calls.{short}
 use Rattle.marks.specs.Orders.{OrderLaws}
 use Rattle.marks.specs.Refusals.{accepted, refused, checked}
 use Rattle.sheets.specs.declared.copies.Place.{Place}
-use Rattle.sheets.specs.Grids.{Grid, mark, at}
+use Rattle.sheets.specs.Grids.{Grid, mark}
 use Rattle.sheets.proofs.Marks.{at-get_or}
 use Rattle.terrain.specs.Blocks.{HoldsBlock}
 use Rattle.terrain.specs.Cells.{place}
@@ -33,7 +33,7 @@ use Rattle.seams.proofs.Surveys.{survey_count, survey_tree}
 use Rattle.surveying.specs.Blocks.{Inside, cell_number, MarksKept}
 use Rattle.surveying.specs.Checks.{other_sides}
 use Rattle.tables.specs.Surveyed.{PassOf, PassIn, Recorded, SameElsewhere}
-use Rattle.surveying.specs.Turns.{further, cells_of, Flooded, Under, Besides, Sofar, LinkedAt}
+use Rattle.surveying.specs.Turns.{further, cells_of, Flooded, Besides, Sofar, LinkedAt}
 use Rattle.surveying.proofs.Marking.{number_in}
 
 -- what stands at a place of a list of two parts, of a front, and of what is left behind one

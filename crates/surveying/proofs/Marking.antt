@@ -1,12 +1,12 @@
 -- An area read and flooded, and the marks of its mouths in a table. Assumes nothing.
-use Rattle.std.proofs.Common.{◌≡◌, ℕ, zero, suc, ◌+◌, ◌-◌, ◌*◌, ◌<◌, ◌≤◌, Bool, true, false, not, ◌||◌, eqb, ltb, ◌≢◌, ◌⊎◌, List, [], ◌∷◌, ◌++◌, length, get_or, set, Some, None, Ok, Err, Option, Result, sym, refl, ap, ◌∙◌, subst, ap₂, subst₂, inl, inr, ⊎_elim, mul-le-mul, arith}
+use Rattle.std.proofs.Common.{◌≡◌, ℕ, ◌+◌, ◌-◌, ◌*◌, ◌<◌, ◌≤◌, Bool, false, not, eqb, ltb, ◌≢◌, List, [], ◌∷◌, length, get_or, set, Some, None, Ok, Err, Option, Result, sym, refl, ap, ◌∙◌, ap₂, subst₂, inl, inr, ⊎_elim, mul-le-mul, arith}
 use Rattle.std.specs.List.{slice_get}
 use Rattle.std.proofs.lemmas.Nat.{mul-add-lt}
 use Rattle.std.proofs.lemmas.List.{length-set, get_or-set_same, get_or-set_other}
 use Rattle.std.proofs.lemmas.Option.{slice_get-get_or, slice_get_past}
 use Rattle.std.proofs.lemmas.Bool.{cases_eq, cases_lt, or_from, le-ltb, eq-eqb}
 use Rattle.marks.specs.declared.refusal.Refusal.{Refusal}
-use Rattle.marks.specs.Refusals.{Told, told, accepted, refused, checked}
+use Rattle.marks.specs.Refusals.{accepted}
 use Rattle.sheets.specs.declared.copies.Extent.{Extent}
 use Rattle.sheets.specs.Copies.{leaving, broken_rows}
 use Rattle.sheets.specs.Grids.{Grid}

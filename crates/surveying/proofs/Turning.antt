@@ -1,28 +1,27 @@
 -- How the choice of passes begins, goes on and ends. Assumes nothing.
-use Rattle.std.proofs.Common.{◌≡◌, ℕ, suc, ◌+◌, ◌-◌, ◌*◌, ◌/◌, ◌%◌, ◌<◌, ◌≤◌, min, Bool, true, false, cond, ◌⊎◌, ◌↔◌, List, [], ◌∷◌, ◌++◌, map, length, get_or, take, set, Some, None, Option, sym, refl, ap, ◌∙◌, subst, inl, inr, ⊎_elim, mul-le-mul_right, mod-lt, suc-mul, mul-zero, div-add-mod', arith}
+use Rattle.std.proofs.Common.{◌≡◌, ℕ, suc, ◌+◌, ◌-◌, ◌*◌, ◌/◌, ◌%◌, ◌<◌, ◌≤◌, min, true, false, cond, ◌⊎◌, List, [], ◌∷◌, ◌++◌, length, get_or, set, Some, None, Option, sym, ap, ◌∙◌, subst, inl, inr, ⊎_elim, mul-le-mul_right, mod-lt, suc-mul, mul-zero, div-add-mod', arith}
 use lib.Arith.{digits_div, digits_mod}
-use Rattle.std.specs.List.{ContainsAt as Has, AllByRecursion as All}
 use Rattle.std.proofs.lemmas.List.{length-map, length-take-le, length-set, take_more_set, map_push}
 use Rattle.std.proofs.lemmas.Bool.{cases_eq, cases_lt, cases_Bool}
 use Rattle.flood.specs.Queues.{times}
 use Rattle.flood.specs.declared.entry.Entry.{Entry}
 use Rattle.flood.proofs.Counts.{some_same, none_some}
-use Rattle.marks.specs.Orders.{OrderLaws, highest}
+use Rattle.marks.specs.Orders.{OrderLaws}
 use Rattle.sheets.specs.declared.copies.Place.{Place}
 use Rattle.terrain.specs.Cells.{Touches, place_of}
 use Rattle.terrain.specs.CellLaws.{node_place, place_in}
 use Rattle.terrain.specs.Terrains.{Kind}
-use Rattle.tiles.specs.Plans.{Area, tile_at, height, width}
+use Rattle.tiles.specs.Plans.{Area, height, width}
 use Rattle.tiles.specs.Mouths.{mouth_index, border, tile_mouths}
 use Rattle.tiles.proofs.Indices.{index_below}
 use Rattle.tables.specs.declared.records.PassRecord.{PassRecord}
-use Rattle.seams.specs.Joins.{NoneAbove, label, Relabelled}
+use Rattle.seams.specs.Joins.{label}
 use Rattle.seams.specs.Sheets.{cell_in}
 use Rattle.seams.specs.Surveys.{tile_cells, TouchIn, OriginAt, HigherOf}
 use Rattle.seams.proofs.Joins.{none_above_more}
-use Rattle.seams.proofs.Surveys.{origin_found, survey_none, survey_retold, survey_skip, survey_keep, survey_room}
+use Rattle.seams.proofs.Surveys.{origin_found, survey_retold, survey_skip, survey_keep, survey_room}
 use Rattle.terrain.proofs.Marks.{le_self}
-use Rattle.surveying.specs.Turns.{further, cells_of, Near, JoinedAt, Flooded, Under, Besides, Until, Stands, MouthIs, Sofar, Turn}
+use Rattle.surveying.specs.Turns.{further, cells_of, Near, JoinedAt, Flooded, Under, Until, Stands, MouthIs, Sofar, Turn}
 
 mul_mono : (p r w : ℕ) → p ≤ r → p * w ≤ r * w
 mul_mono p r w h = mul-le-mul_right w h

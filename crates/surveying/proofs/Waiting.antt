@@ -1,28 +1,26 @@
 -- How the cells of a tile wait, and are taken in rising order of level. Assumes nothing.
-use Rattle.std.proofs.Common.{◌≡◌, ℕ, suc, ◌+◌, ◌-◌, ◌*◌, ◌<◌, ◌≤◌, Bool, true, false, cond, ◌⊎◌, ◌↔◌, List, [], ◌∷◌, ◌++◌, map, length, get_or, take, set, Some, None, Option, sym, refl, ap, ◌∙◌, subst, inl, inr, ⊎_elim, arith}
+use Rattle.std.proofs.Common.{◌≡◌, ℕ, ◌+◌, ◌<◌, true, ◌⊎◌, List, [], ◌∷◌, length, get_or, None, Option, sym, refl, ap, ◌∙◌, subst, inl, inr, ⊎_elim, arith}
 use Rattle.std.specs.List.Sorted.{IsPermutation}
-use Rattle.std.specs.List.{ContainsAt as Has, AllByRecursion as All}
+use Rattle.std.specs.List.{AllByRecursion}
 use Rattle.std.proofs.ByRecursion.{All-weaker, all_shuffled}
-use Rattle.std.proofs.lemmas.Bool.{cases_eq, cases_lt, cases_Bool}
-use Rattle.flood.specs.Entries.{before}
+use Rattle.std.proofs.lemmas.Bool.{cases_eq}
 use Rattle.flood.specs.Queues.{times}
 use Rattle.flood.specs.declared.entry.Entry.{Entry}
-use Rattle.flood.proofs.Accepted.{before_level}
-use Rattle.flood.proofs.Counts.{some_same, none_some, times_yes, times_no, times_none, times_shuffled}
+use Rattle.flood.proofs.Counts.{some_same, times_yes, times_no, times_none, times_shuffled}
 use Rattle.marks.specs.Orders.{OrderLaws, highest}
 use Rattle.sheets.specs.declared.copies.Place.{Place}
-use Rattle.terrain.specs.Terrains.{Kind, sheet_terrain}
-use Rattle.tiles.specs.Plans.{Area, tile_at, height, width}
-use Rattle.tiles.specs.Mouths.{mouth_index, mouth_base, border, tile_mouths}
+use Rattle.terrain.specs.Terrains.{Kind}
+use Rattle.tiles.specs.Plans.{Area, tile_at}
+use Rattle.tiles.specs.Mouths.{mouth_base, tile_mouths}
 use Rattle.tables.specs.declared.records.PassRecord.{PassRecord}
-use Rattle.seams.specs.Joins.{Listed, NoneAbove, label, Unjoined, Joining}
-use Rattle.seams.specs.Sheets.{tiling_of, TileMouthAt, value_or, cell_in, number_in, level_in, origin_in}
-use Rattle.seams.specs.Surveys.{tile_cells, TouchIn, Surveying}
-use Rattle.seams.specs.Tilings.{Chain, stay, Meet}
+use Rattle.seams.specs.Joins.{Listed, NoneAbove, Unjoined}
+use Rattle.seams.specs.Sheets.{TileMouthAt, value_or, cell_in, number_in, level_in, origin_in}
+use Rattle.seams.specs.Surveys.{TouchIn, Surveying}
+use Rattle.seams.specs.Tilings.{Chain, stay}
 use Rattle.seams.proofs.Joins.{none_above_none, none_above_raise}
 use Rattle.seams.proofs.Surveys.{survey_none}
-use Rattle.surveying.specs.Turns.{further, cells_of, Near, Flooded, Under, Besides, Until, Stands, Lined, Sofar, Turn}
-use Rattle.surveying.proofs.Turning.{told_so, cells_same, touch_near, origin_some}
+use Rattle.surveying.specs.Turns.{cells_of, Near, Flooded, Besides, Until, Stands, Lined, Sofar, Turn}
+use Rattle.surveying.proofs.Turning.{told_so, cells_same, touch_near}
 
 -- cells of one origin need no pass between them
 module _ {M : Type 0} (κ : Kind M) (a : Area) (levels : List (Option M)) (origins : List (Option ℕ)) (C : Flooded κ a levels origins) where
@@ -123,7 +121,7 @@ module _ {M : Type 0} (κ : Kind M) (O : OrderLaws κ.leb) (a : Area) (levels : 
             r.2
 
     -- and ends
-    pub turn_ends : (x : Entry M) (q : List (Entry M)) (labels : List ℕ) (records : List (PassRecord M)) (kept : ℕ) → All (λ y. κ.leb x.level y.level ≡ true) q →
+    pub turn_ends : (x : Entry M) (q : List (Entry M)) (labels : List ℕ) (records : List (PassRecord M)) (kept : ℕ) → AllByRecursion (λ y. κ.leb x.level y.level ≡ true) q →
         Turn κ a levels origins C q first x (cells_of a) labels records kept → Sofar κ a levels origins C first (Besides κ a levels origins q) q labels records kept
     turn_ends x q labels records kept least S =
         let T = told_so κ O a levels origins C first (Until κ a levels origins q x.node (cells_of a)) (Besides κ a levels origins q) (x ∷ []) labels records kept S go in

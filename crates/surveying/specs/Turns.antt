@@ -1,6 +1,6 @@
 -- How the passes of a flooded tile are chosen: its cells are taken in rising order of level, and looked at from each are the cells around it. Assumes nothing.
 use Rattle.std.specs.Prelude.{◌≡◌, ℕ, ◌+◌, ◌*◌, ◌/◌, ◌%◌, ◌<◌, ◌≤◌, true, ◌⊎◌, List, [], ◌∷◌, map, length, get_or, take, Some, None, Option, ◌≢◌, slice_index_or, slice_set}
-use Rattle.std.specs.List.{AllByRecursion as All, slice_get}
+use Rattle.std.specs.List.{AllByRecursion, slice_get}
 use Rattle.flood.specs.Queues.{times}
 use Rattle.flood.specs.declared.entry.Entry.{Entry}
 use Rattle.sheets.specs.Grids.{Grid}
@@ -75,8 +75,8 @@ module _ {M : Type 0} (κ : Kind M) (a : Area) (levels : List (Option M)) (origi
 
   -- Entries of the cells before i: one at most of each, and one of each cell that has a cell with another origin near it.
   pub record Lined (i : ℕ) (q : List (Entry M)) : Type 0 where
-    pub stands : All Stands q
-    pub before : All (λ x. x.node < i) q
+    pub stands : AllByRecursion Stands q
+    pub before : AllByRecursion (λ x. x.node < i) q
     pub once : (v : ℕ) → times v q ≤ 1
     pub others : Flooded → (c d : ℕ) → c < i → Near a c d → times c q ≡ 0 → slice_index_or origins c None ≡ slice_index_or origins d None
 
@@ -84,7 +84,7 @@ module _ {M : Type 0} (κ : Kind M) (a : Area) (levels : List (Option M)) (origi
   pub record Sofar (C : Flooded) (first : ℕ) (Taken : ℕ → ℕ → Type 0) (q : List (Entry M)) (labels : List ℕ) (records : List (PassRecord M)) (kept : ℕ) : Type 0 where
     pub passes : List (ℕ × ℕ × M)
     pub survey : Surveying κ C.grid C.plan C.tile levels origins labels passes Taken
-    pub low : All (λ x. NoneAbove κ.leb x.level passes) q
+    pub low : AllByRecursion (λ x. NoneAbove κ.leb x.level passes) q
     pub listed : take kept records ≡ map (further first) passes
     pub within : kept ≤ length records
     pub room : length records + 1 ≡ tile_mouths C.plan C.tile

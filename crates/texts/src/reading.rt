@@ -3,7 +3,7 @@ ghost use Rattle.std.specs.Prelude.{◌<◌, ◌≤◌, length, drop, MatchResul
 ghost use Rattle.grammar.specs.Grammars.{Reads, Found, Lost, all_by, ended};
 ghost use Rattle.marks.specs.Spellings.{Separator};
 ghost use Rattle.texts.specs.Texts.{ReadsSheet};
-ghost use Rattle.texts.specs.Parts.{row as rowGrammar, body as bodyGrammar, head as headGrammar, sides};
+ghost use Rattle.texts.specs.Parts.{row as row_grammar, body as body_grammar, head as head_grammar, sides};
 
 use crate::heading::Heading;
 use crate::tokens::written;
@@ -62,7 +62,7 @@ fn side(bytes: &[u8], at: usize, end: u8) -> Result<(usize, usize), usize>
 fn row<M: CodedMark>(bytes: &[u8], from: usize, cols: usize) -> Result<usize, usize>
     requires from { from ≤ length bytes.now }
     requires cols { 1 ≤ cols }
-    ensures { Reads (rowGrammar M.Spelled.spelled cols) from (drop from bytes.now) result }
+    ensures { Reads (row_grammar M.Spelled.spelled cols) from (drop from bytes.now) result }
 {
     let mut at = literal(bytes, from, b"(row ")?;
     let mut left = cols;
@@ -78,7 +78,7 @@ fn row<M: CodedMark>(bytes: &[u8], from: usize, cols: usize) -> Result<usize, us
 fn body<M: CodedMark>(bytes: &[u8], from: usize, rows: usize, cols: usize) -> Result<usize, usize>
     requires from { from ≤ length bytes.now }
     requires cols { 1 ≤ cols }
-    ensures { Reads (bodyGrammar M.Spelled.spelled rows cols) from (drop from bytes.now) result }
+    ensures { Reads (body_grammar M.Spelled.spelled rows cols) from (drop from bytes.now) result }
 {
     let mut at = from;
     let mut left = rows;
@@ -91,7 +91,7 @@ fn body<M: CodedMark>(bytes: &[u8], from: usize, rows: usize, cols: usize) -> Re
 
 // Reads the first line.
 fn first_line<M: CodedMark>(bytes: &[u8]) -> Result<Heading, usize>
-    ensures { MatchResult result (λ h. Found (headGrammar M.Spelled.named) 0 bytes.now (tt, (tt, (tt, (h.rows, h.cols)))) h.end) (λ p. Lost (headGrammar M.Spelled.named) 0 bytes.now p) }
+    ensures { MatchResult result (λ h. Found (head_grammar M.Spelled.named) 0 bytes.now (tt, (tt, (tt, (h.rows, h.cols)))) h.end) (λ p. Lost (head_grammar M.Spelled.named) 0 bytes.now p) }
 {
     let word = literal(bytes, 0, b"(sheet ")?;
     let gap = literal(bytes, word, M::name())?;

@@ -5,7 +5,7 @@ ghost use Rattle.terrain.specs.Cells.{place as cell_at};
 ghost use Rattle.terrain.specs.CellGrounds.{at_edge};
 ghost use Rattle.terrain.specs.Terrains.{kind_of};
 ghost use Rattle.tiles.specs.Plans.{plan_of, tiles};
-ghost use Rattle.tiles.specs.Mouths.{mouths as allMouths, passes as allPasses, tile_mouths};
+ghost use Rattle.tiles.specs.Mouths.{mouths as all_mouths, passes as all_passes, tile_mouths};
 ghost use Rattle.tiles.proofs.Tilings.{lawful_plan};
 ghost use Rattle.tables.specs.Picks.{picked};
 ghost use Rattle.tables.specs.Records.{tables};
@@ -23,7 +23,7 @@ use tiles::{CutList, Mouth};
 impl<'a, 'b, M: Mark> Ground for MouthGround<'a, 'b, M> {
     type Mark = M;
 
-    ghost nodes = { λ s. allMouths (plan_of s.cuts) };
+    ghost nodes = { λ s. all_mouths (plan_of s.cuts) };
 
     ghost crossings = { λ s. mouth_crossings (kind_of M.Order M.Mark.lowest) (plan_of s.cuts) (tables s.mouths.now s.passes.now) };
 
@@ -99,7 +99,7 @@ fn seam_link<M: Mark>(
     mouth: Mouth,
     k: usize,
 ) -> Option<(usize, M)>
-    requires room { allMouths (plan_of cuts.now) ≤ length mouths.now }
+    requires room { all_mouths (plan_of cuts.now) ≤ length mouths.now }
     requires here { Stands (plan_of cuts.now) node mouth }
     requires k { k < 9 }
     ensures { result ≡ seam_at (kind_of M.Order M.Mark.lowest) (plan_of cuts.now) mouths.now node k }
@@ -122,7 +122,7 @@ fn nth_seam<M: Mark>(
     mouth: Mouth,
     place: usize,
 ) -> Result<(usize, M), usize>
-    requires room { allMouths (plan_of cuts.now) ≤ length mouths.now }
+    requires room { all_mouths (plan_of cuts.now) ≤ length mouths.now }
     requires here { Stands (plan_of cuts.now) node mouth }
     ensures { FoundAt (picked (seam_at (kind_of M.Order M.Mark.lowest) (plan_of cuts.now) mouths.now node) 0 9) place result }
 {
@@ -169,7 +169,7 @@ fn nth_pass<M: Mark>(
     tile: usize,
     place: usize,
 ) -> Option<(usize, M)>
-    requires room { allPasses (plan_of cuts.now) ≤ length passes.now }
+    requires room { all_passes (plan_of cuts.now) ≤ length passes.now }
     requires tile { (tile ≡ tile_of_mouth (plan_of cuts.now) node) × (tile < tiles (plan_of cuts.now)) }
     ensures { result ≡ slice_get (picked (pass_at (plan_of cuts.now) passes.now node) 0 (tile_mouths (plan_of cuts.now) tile - 1)) place }
 {

@@ -6,7 +6,6 @@ use Rattle.terrain.specs.Cells.{place}
 use Rattle.sheets.proofs.Checks.{passes}
 use Rattle.brackets.specs.Writes.{row_lines}
 use Rattle.brackets.proofs.Rowwise.{more_alive, dead_told, more_long}
-use Rattle.brackets.proofs.measuring.rows_length.Given as given
 use Rattle.brackets.proofs.measuring.rows_length.Goals as goal
 
 pub line_length-len-requires : goal.line_length-len-requires

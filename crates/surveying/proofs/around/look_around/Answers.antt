@@ -1,4 +1,4 @@
-use Rattle.std.proofs.Common.{◌≡◌, ◌≤◌, sym, arith}
+use Rattle.std.proofs.Common.{sym, arith}
 use Rattle.marks.specs.Orders.{OrderLaws}
 use Rattle.terrain.specs.Terrains.{kind_of}
 use Rattle.tiles.specs.Plans.{area_of}

@@ -1,4 +1,4 @@
-use Rattle.std.proofs.Common.{◌≡◌, ◌*◌, ◌≤◌, false, [], length, sym, refl, ap, ◌∙◌, arith}
+use Rattle.std.proofs.Common.{◌≡◌, ◌*◌, ◌≤◌, false, [], length, sym, ap, ◌∙◌, arith}
 use Rattle.marks.specs.Refusals.{told}
 use Rattle.sheets.proofs.Checks.{passes}
 use Rattle.flood.specs.Calls.{short}

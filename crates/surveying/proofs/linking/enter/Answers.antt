@@ -1,7 +1,6 @@
-use Rattle.std.proofs.Common.{◌≡◌, ◌<◌, length, get_or, Some, None, sym, refl, ap, ◌∙◌, subst, arith}
+use Rattle.std.proofs.Common.{◌<◌, length, None, sym, refl, ◌∙◌, arith}
 use Rattle.std.proofs.lemmas.List.{get_or_read}
 use Rattle.flood.proofs.Accepted.{put_accepted}
-use Rattle.flood.proofs.Counts.{none_some}
 use Rattle.flood.specs.Heaps.{contents}
 use Rattle.marks.specs.Orders.{OrderLaws}
 use Rattle.terrain.specs.Terrains.{kind_of}

@@ -1,4 +1,4 @@
-use Rattle.std.proofs.Common.{◌≡◌, ◌+◌, ◌-◌, ◌≤◌, length, ◌∙◌, arith, rules}
+use Rattle.std.proofs.Common.{◌≡◌, ◌+◌, ◌-◌, ◌≤◌, length, arith, rules}
 use borrow.Author.Rules.{scaled_fits≤}
 use Rattle.terrain.specs.Terrains.{kind_of}
 use Rattle.terrain.proofs.Rows.{part_length}

@@ -1,4 +1,4 @@
-use Rattle.std.proofs.Common.{◌≡◌, ℕ, ◌+◌, ◌<◌, ◌≤◌, true, [], ◌∷◌, length, sym, refl, ap, ◌∙◌, subst, arith, length-take}
+use Rattle.std.proofs.Common.{◌≡◌, true, ◌∷◌, sym, ap, ◌∙◌, subst, arith}
 use Rattle.std.proofs.ByRecursion.{All-weaker, all_shuffled}
 use Rattle.std.proofs.lemmas.List.{nil_from_length}
 use Rattle.flood.specs.Entries.{before}
@@ -9,7 +9,7 @@ use Rattle.terrain.specs.Terrains.{kind_of}
 use Rattle.tiles.specs.Plans.{area_of, height, width}
 use Rattle.tiles.specs.Mouths.{border, tile_mouths}
 use Rattle.seams.specs.Joins.{Unjoined}
-use Rattle.surveying.specs.Turns.{Flooded, Stands, Besides, Sofar}
+use Rattle.surveying.specs.Turns.{Stands, Besides, Sofar}
 use Rattle.surveying.proofs.Waiting.{so_begins, turn_begins, turn_ends}
 use Rattle.surveying.proofs.linking.link_mouths.Goals as goal
 

@@ -1,5 +1,5 @@
-use Rattle.std.proofs.Common.{ℕ, ◌≤◌, length}
-use Rattle.std.specs.List.{AllByRecursion as All}
+use Rattle.std.proofs.Common.{length}
+use Rattle.std.specs.List.{AllByRecursion}
 use Rattle.flood.specs.Entries.{before}
 use Rattle.flood.specs.Heaps.{Sound, contents}
 use Rattle.terrain.specs.Terrains.{kind_of}
@@ -12,7 +12,7 @@ invariant-loop-from g l =
     let κ = kind_of g.M.Order g.M.Mark.lowest in
     let a = area_of l.block in
     Sound (before g.M.Order.leb) l.heap
-    × All (Stands κ a l.levels l.origins) (contents l.heap)
+    × AllByRecursion (Stands κ a l.levels l.origins) (contents l.heap)
     × ((C : Flooded κ a l.levels l.origins) → Sofar κ a l.levels l.origins C l.first (Besides κ a l.levels l.origins (contents l.heap)) (contents l.heap) l.labels l.passes l.count)
 
 abbrev pub decreases-loop-from : goal.decreases-loop-from

@@ -1,4 +1,4 @@
-use Rattle.std.proofs.Common.{◌≡◌, ◌+◌, ◌-◌, ◌<◌, ◌≤◌, Bool, true, false, [], ◌∷◌, length, sym, refl, ap, ◌∙◌, subst, arith}
+use Rattle.std.proofs.Common.{◌≡◌, ◌-◌, [], length, sym, refl, ap, ◌∙◌, arith}
 use Rattle.std.proofs.lemmas.Result.{err_from_is_err_and}
 use Rattle.marks.specs.Orders.{OrderLaws}
 use Rattle.marks.specs.Refusals.{accepted}
@@ -8,7 +8,6 @@ use Rattle.terrain.specs.Terrains.{kind_of}
 use Rattle.tiles.specs.Plans.{plan_of, area_of, tile_at, height, width}
 use Rattle.tiles.specs.Mouths.{border, mouth_base, tile_mouths}
 use Rattle.tiles.proofs.Tilings.{lawful_plan}
-use Rattle.tables.proofs.Reading.{records}
 use Rattle.surveying.specs.Blocks.{dead_in}
 use Rattle.surveying.specs.Turns.{cells_of}
 use Rattle.surveying.proofs.Charting.{tile_there, tile_is, sides_cut, tile_inside, flooded_tile, chart_done, tables_long, room_short}

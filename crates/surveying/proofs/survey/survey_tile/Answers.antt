@@ -1,9 +1,9 @@
-use Rattle.std.proofs.Common.{◌≡◌, ◌*◌, ◌≤◌, Bool, true, false, length, sym, refl, ap, ◌∙◌, arith, rules}
+use Rattle.std.proofs.Common.{◌*◌, ◌≤◌, length, sym, refl, ap, ◌∙◌, arith, rules}
 use Rattle.std.proofs.lemmas.Result.{err_from_is_err_and}
 use Rattle.std.proofs.lemmas.Bool.{lt-leb}
 use Rattle.flood.specs.Calls.{short}
 use Rattle.tiles.specs.Plans.{plan_of, area_of, tiles, tile_at, height, width}
-use Rattle.tiles.specs.Mouths.{border, tile_mouths}
+use Rattle.tiles.specs.Mouths.{border}
 use Rattle.surveying.specs.Turns.{cells_of}
 use Rattle.surveying.proofs.Charting.{tile_is}
 use Rattle.surveying.proofs.Telling.{tile_found, roomy, front_long, scratch_left, tells_tile, tells_tables, tells_sides, tells_short, tells_rest}

@@ -5,7 +5,6 @@ use Rattle.sheets.proofs.Checks.{fails, passes, run_fits}
 use Rattle.brackets.specs.Lines.{lines_on, row_starts}
 use Rattle.brackets.proofs.Steps.{starts_long, starts_at}
 use Rattle.brackets.proofs.Along.{run_alive, run_dead, run_held}
-use Rattle.brackets.proofs.making.TextSheet.read.Given as given
 use Rattle.brackets.proofs.making.TextSheet.read.Goals as goal
 
 -- the row is there, and begins where the sheet says

@@ -3,7 +3,7 @@ use Rattle.std.proofs.lemmas.Bool.{or_parts}
 use Rattle.flood.specs.Calls.{short}
 use Rattle.settling.specs.Sills.{sills_told}
 use Rattle.std.proofs.lemmas.Result.{err_from_is_err_and}
-use Rattle.marks.specs.Refusals.{Told, accepted, refused, checked}
+use Rattle.marks.specs.Refusals.{accepted, refused, checked}
 use Rattle.sheets.proofs.Checks.{fails, passes, past, not_refused, refused_first, passed_first}
 use Rattle.terrain.specs.declared.scratch.Scratch.{Scratch}
 use Rattle.terrain.specs.Fills.{scratch_short}
