@@ -70,8 +70,8 @@ fn texts_come_back(rt: HostRuntime) -> Result<(), Fail> {
     let classes = b"(sheet class 2 3\n(row o s m)\n(row . p k)\n)\n";
     let mut height_row = [Height::void(); 3];
     let mut class_row = [Class::Void; 3];
-    assert!(rt; rewritten(rt.alloc(), heights, &mut height_row, 0)?.as_slice() == heights);
-    assert!(rt; rewritten(rt.alloc(), classes, &mut class_row, 0)?.as_slice() == classes);
+    assert!(rt; rewritten(rt.alloc(), heights, &mut height_row, 0)?.as_slice() == heights.as_slice());
+    assert!(rt; rewritten(rt.alloc(), classes, &mut class_row, 0)?.as_slice() == classes.as_slice());
     Ok(())
 }
 
@@ -88,7 +88,7 @@ fn marks_come_back(rt: HostRuntime) -> Result<(), Fail> {
     ];
     let mut run = [Class::Open; 3];
     let text = printed(heap, 2, 3, &mut classes, &mut run)?;
-    assert!(rt; text.as_slice() == b"(sheet class 2 3\n(row o w .)\n(row k p m)\n)\n");
+    assert!(rt; text.as_slice() == b"(sheet class 2 3\n(row o w .)\n(row k p m)\n)\n".as_slice());
     read_run(heap, text.as_slice(), 0, 0, &mut run)?;
     assert_eq!(rt; run, [Class::Open, Class::Wet, Class::Void]);
     read_run(heap, text.as_slice(), 1, 0, &mut run)?;
