@@ -59,7 +59,7 @@ fn cross<G: Ground>(
     requires queue { Roomy G.Mark.Order.leb (G.Ground.nodes ground.now) levels.old origins.old queue.old }
     requires state { Spreading (graph_of G.Mark.Order G.Ground ground.now) from place levels.old origins.old (waiting queue.old) }
     ensures rest { (drop (G.Ground.nodes ground.now) levels.new ≡ drop (G.Ground.nodes ground.now) levels.old) × (drop (G.Ground.nodes ground.now) origins.new ≡ drop (G.Ground.nodes ground.now) origins.old) }
-    ensures done { ((result ≡ true → place < length (G.Ground.crossings ground.now from.node))) × ((result ≡ false → length (G.Ground.crossings ground.now from.node) ≤ place)) }
+    ensures done { (result ≡ true → place < length (G.Ground.crossings ground.now from.node)) × (result ≡ false → length (G.Ground.crossings ground.now from.node) ≤ place) }
     ensures count { queue.new.heap.len + missing (G.Ground.nodes ground.now) levels.new ≡ queue.old.heap.len + missing (G.Ground.nodes ground.now) levels.old }
     ensures queue { Roomy G.Mark.Order.leb (G.Ground.nodes ground.now) levels.new origins.new queue.new }
     ensures state { Spreading (graph_of G.Mark.Order G.Ground ground.now) from (onward result place) levels.new origins.new (waiting queue.new) }

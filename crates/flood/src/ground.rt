@@ -19,7 +19,7 @@ pub trait Ground {
     // The level at which a node drains.
     ghost drain: { Self → ℕ → Option Self.Mark };
 
-    // What each ground must prove: a `law` is refused where a type that borrows implements the trait.
+    // What each ground must prove.
     ghost laws: { (g : Self) → Laws (nodes g) (crossings g) (drain g) };
 
     fn nodes(&self) -> usize

@@ -42,11 +42,11 @@ impl Height {
 impl Order for Height {
     ghost leb = { λ x y. int_le x.dm y.dm };
 
-    ghost total = { first_of (Prim.search rules, Prim.grind (arith, Self.row.coded.inj)) };
+    ghost total = { Prim.search rules };
 
-    ghost transitive = { first_of (Prim.search rules, Prim.grind (arith, Self.row.coded.inj)) };
+    ghost transitive = { Prim.search rules };
 
-    ghost antisymmetric = { first_of (Prim.search rules, Prim.grind (arith, Self.row.coded.inj)) };
+    ghost antisymmetric = { Prim.grind (arith, Self.row.coded.inj) };
 
     fn at_most(&self, other: &Height) -> bool {
         self.dm <= other.dm
@@ -56,7 +56,7 @@ impl Order for Height {
 impl Mark for Height {
     ghost lowest = { record { dm = negsuc 32767; fits = lit< tt } };
 
-    ghost least = { first_of (Prim.search rules, Prim.grind (arith, Self.row.coded.inj)) };
+    ghost least = { Prim.search rules };
 
     fn void() -> Height {
         Height { dm: i16::MIN }

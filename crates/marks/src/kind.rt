@@ -16,8 +16,7 @@ pub trait Mark: Order {
     ghost least: { (x : Self) → Self.Order.leb lowest x ≡ true };
 }
 
-// What is written in a text: by a word for the kind and a spelling for each mark. A trait of its own: beside a law the
-// check takes neither a `'static` constant nor a method that returns a `Spelling`.
+// What is written in a text: by a word for the kind and a spelling for each mark.
 pub trait Spelled {
     const WORD: &'static [u8];
 

@@ -70,8 +70,12 @@ fn texts_come_back(rt: HostRuntime) -> Result<(), Fail> {
     let classes = b"(sheet class 2 3\n(row o s m)\n(row . p k)\n)\n";
     let mut height_row = [Height::void(); 3];
     let mut class_row = [Class::Void; 3];
-    assert!(rt; rewritten(rt.alloc(), heights, &mut height_row, 0)?.as_slice() == heights.as_slice());
-    assert!(rt; rewritten(rt.alloc(), classes, &mut class_row, 0)?.as_slice() == classes.as_slice());
+    assert!(rt;
+        rewritten(rt.alloc(), heights, &mut height_row, 0)?.as_slice() == heights.as_slice()
+    );
+    assert!(rt;
+        rewritten(rt.alloc(), classes, &mut class_row, 0)?.as_slice() == classes.as_slice()
+    );
     Ok(())
 }
 

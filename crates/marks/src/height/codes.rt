@@ -5,7 +5,7 @@ ghost use Rattle.marks.specs.Heights.{bits16, height_of};
 ghost use Rattle.marks.specs.Spellings.{spelled_z, spelt};
 ghost use Rattle.marks.specs.HeightsLemmas.{same_height, bits_apart, bits_small, height_encodes, height_decodes};
 ghost use Rattle.marks.specs.Spells.{spelled_apart, spelled_some, spelled_clear, word_clear};
-ghost use Rattle.std.proofs.Common.{rules, arith};
+ghost use Rattle.std.proofs.Common.{rules};
 
 use crate::height::Height;
 use crate::kind::{CodedMark, Mark, Spelled};
@@ -56,7 +56,7 @@ impl CodedMark for Height {
 
     ghost clear = { λ x u w t s e. spelled_clear x.dm x.fits u w t s e };
 
-    ghost brief = { first_of (Prim.search rules, Prim.grind (arith, Self.row.coded.inj)) };
+    ghost brief = { Prim.search rules };
 
     ghost whole = { λ u w t s e. word_clear _ refl u w t s e };
 
