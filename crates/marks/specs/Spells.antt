@@ -67,11 +67,17 @@ first_plain n least le b x e = omega (arith, first_decimal n (omega arith) (omeg
 abbrev pub H : Grammar Height
 H = all_by (λ x. spelled_z x.dm)
 
+pub high_fits : (n : ℕ) → n ≤ 32767 → mag (pos n) < 2 ^ 15
+high_fits n h = omega arith
+
 abbrev pub high : (n : ℕ) → n ≤ 32767 → Height
-high n h = record { dm = pos n; fits = omega arith }
+high n h = record { dm = pos n; fits = high_fits n h }
+
+pub low_fits : (n : ℕ) → n ≤ 32766 → mag (negsuc n) < 2 ^ 15
+low_fits n h = omega arith
 
 abbrev pub low : (n : ℕ) → n ≤ 32766 → Height
-low n h = record { dm = negsuc n; fits = omega arith }
+low n h = record { dm = negsuc n; fits = low_fits n h }
 
 pub spelled_some : (z : ℤ) → mag z < 2 ^ 15 → (1 ≤ length (spelled_z z)) × (length (spelled_z z) ≤ 6)
 spelled_some z h = by (spelled_z z) (view z h)

@@ -8,19 +8,19 @@ use tiles::CutList;
 
 // How many places of each table and of each kind of scratch are lent.
 #[derive(Clone, Copy)]
-pub struct Lent {
-    pub mouths: usize,
-    pub passes: usize,
-    pub marks: usize,
-    pub levels: usize,
-    pub origins: usize,
-    pub heap: usize,
-    pub joins: usize,
+pub(crate) struct Lent {
+    pub(crate) mouths: usize,
+    pub(crate) passes: usize,
+    pub(crate) marks: usize,
+    pub(crate) levels: usize,
+    pub(crate) origins: usize,
+    pub(crate) heap: usize,
+    pub(crate) joins: usize,
 }
 
 impl Lent {
     // Scratch with so many places for cells, and so many for mouths; a table of 21 mouths and one of 19 passes.
-    pub fn of(cells: usize, mouths: usize) -> Lent {
+    pub(crate) fn of(cells: usize, mouths: usize) -> Lent {
         Lent {
             mouths: 21,
             passes: 19,
@@ -97,7 +97,7 @@ fn survey_part<S: Sheet>(
 }
 
 // A survey of heights with tables and slices of these lengths, which are 12 at most for scratch.
-pub fn survey_heights<S: Sheet<Mark = Height>>(
+pub(crate) fn survey_heights<S: Sheet<Mark = Height>>(
     cuts: &CutList,
     source: &S,
     tile: usize,
@@ -131,7 +131,7 @@ pub fn survey_heights<S: Sheet<Mark = Height>>(
 }
 
 // A survey of classes with tables and slices of these lengths, which are 12 at most for scratch.
-pub fn survey_classes<S: Sheet<Mark = Class>>(
+pub(crate) fn survey_classes<S: Sheet<Mark = Class>>(
     cuts: &CutList,
     source: &S,
     tile: usize,

@@ -16,24 +16,22 @@ module _ {M X : Type 0} (κ : Kind M) (O : OrderLaws κ.leb) (rows cols : ℕ) (
   levels_here (Ok u) h = ((λ v lt. found_sill κ O rows cols marks v lt (get_or ls v None) (get_or os v None) (h.0 v lt)), h.1, h.2)
   levels_here (Err e) h = h
 
-  -- the same of a ground of these sides and marks
-  pub levels_left : (rows' cols' : ℕ) (marks' : List M) → rows' ≡ rows → cols' ≡ cols → marks' ≡ marks → (r : Result (Unit {0}) Refusal) → Leaves (cell_graph κ.leb κ.void rows' cols' marks') r ls ls₀ os os₀ hs hs₀ → LevelsLeft κ rows cols marks ls₀ ls os₀ os hs₀ hs r
-  levels_left rows' cols' marks' is-rows is-cols is-marks r h =
-      levels_here r
-      (subst (λ xs. Leaves (cell_graph κ.leb κ.void rows cols xs) r ls ls₀ os os₀ hs hs₀) is-marks
-      (subst (λ n. Leaves (cell_graph κ.leb κ.void rows n marks') r ls ls₀ os os₀ hs hs₀) is-cols
-      (subst (λ n. Leaves (cell_graph κ.leb κ.void n cols' marks') r ls ls₀ os os₀ hs hs₀) is-rows h)))
-
   origins_here : (r : Result (Unit {0}) Refusal) → Leaves (cell_graph κ.leb κ.void rows cols marks) r ls ls₀ os os₀ hs hs₀ → OriginsLeft κ rows cols marks ls os r
   origins_here (Ok u) h = λ v lt. found_origin κ O rows cols marks v lt (get_or ls v None) (get_or os v None) (h.0 v lt)
   origins_here (Err e) h = tt
 
-  pub origins_left : (rows' cols' : ℕ) (marks' : List M) → rows' ≡ rows → cols' ≡ cols → marks' ≡ marks → (r : Result (Unit {0}) Refusal) → Leaves (cell_graph κ.leb κ.void rows' cols' marks') r ls ls₀ os os₀ hs hs₀ → OriginsLeft κ rows cols marks ls os r
-  origins_left rows' cols' marks' is-rows is-cols is-marks r h =
-      origins_here r
-      (subst (λ xs. Leaves (cell_graph κ.leb κ.void rows cols xs) r ls ls₀ os os₀ hs hs₀) is-marks
+  -- a flood of a ground of these sides and marks leaves what one of theirs leaves
+  same_ground : (rows' cols' : ℕ) (marks' : List M) → rows' ≡ rows → cols' ≡ cols → marks' ≡ marks → (r : Result (Unit {0}) Refusal) → Leaves (cell_graph κ.leb κ.void rows' cols' marks') r ls ls₀ os os₀ hs hs₀ → Leaves (cell_graph κ.leb κ.void rows cols marks) r ls ls₀ os os₀ hs hs₀
+  same_ground rows' cols' marks' is-rows is-cols is-marks r h =
+      subst (λ xs. Leaves (cell_graph κ.leb κ.void rows cols xs) r ls ls₀ os os₀ hs hs₀) is-marks
       (subst (λ n. Leaves (cell_graph κ.leb κ.void rows n marks') r ls ls₀ os os₀ hs hs₀) is-cols
-      (subst (λ n. Leaves (cell_graph κ.leb κ.void n cols' marks') r ls ls₀ os os₀ hs hs₀) is-rows h)))
+      (subst (λ n. Leaves (cell_graph κ.leb κ.void n cols' marks') r ls ls₀ os os₀ hs hs₀) is-rows h))
+
+  pub levels_left : (rows' cols' : ℕ) (marks' : List M) → rows' ≡ rows → cols' ≡ cols → marks' ≡ marks → (r : Result (Unit {0}) Refusal) → Leaves (cell_graph κ.leb κ.void rows' cols' marks') r ls ls₀ os os₀ hs hs₀ → LevelsLeft κ rows cols marks ls₀ ls os₀ os hs₀ hs r
+  levels_left rows' cols' marks' is-rows is-cols is-marks r h = levels_here r (same_ground rows' cols' marks' is-rows is-cols is-marks r h)
+
+  pub origins_left : (rows' cols' : ℕ) (marks' : List M) → rows' ≡ rows → cols' ≡ cols → marks' ≡ marks → (r : Result (Unit {0}) Refusal) → Leaves (cell_graph κ.leb κ.void rows' cols' marks') r ls ls₀ os os₀ hs hs₀ → OriginsLeft κ rows cols marks ls os r
+  origins_left rows' cols' marks' is-rows is-cols is-marks r h = origins_here r (same_ground rows' cols' marks' is-rows is-cols is-marks r h)
 
 pub levels_told_lem : {M X : Type 0} (rows cols len n : ℕ) (ls : List (Option M)) (os : List (Option ℕ)) (hs : List X) (t : Told (Unit {0})) → accepted (tt {0}) ≡ make_told rows cols len (rows * cols) (tt {0}) → n ≡ rows * cols → t ≡ checked ((short n ls os hs, 5) ∷ []) tt → t ≡ levels_told rows cols len ls os hs
 levels_told_lem rows cols len n ls os hs t made size h =
