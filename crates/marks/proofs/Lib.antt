@@ -1,1 +1,1 @@
-pub mod Endings
+pub mod Letters

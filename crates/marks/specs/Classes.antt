@@ -1,6 +1,7 @@
 -- The codes and the letters of the classes. Assumes nothing.
-use Rattle.std.specs.Prelude.{ℕ, zero, suc, Bool, Some, None, Option, nat_le}
+use Rattle.std.specs.Prelude.{◌≡◌, ◌≢◌, ℕ, zero, suc, Bool, Some, None, Option, Result, MatchResult, nat_le}
 use Rattle.marks.specs.declared.class.Class.{Class}
+use Rattle.marks.specs.declared.class.UnknownLetter.{UnknownLetter}
 use Rattle.marks.specs.declared.class.Class.TheVariants.{Void, Open, Strip, Moist, Wet, Peat, Kept}
 
 -- the code of a class, which also gives its order
@@ -37,3 +38,7 @@ letter_of Moist = 109
 letter_of Wet = 119
 letter_of Peat = 112
 letter_of Kept = 107
+
+-- the result is the class that the letter spells, or the letter where it spells none
+abbrev pub Lettered : ℕ → Result Class UnknownLetter → Type 0
+Lettered letter r = MatchResult r (λ class. letter_of class ≡ letter) (λ e. (e.0 ≡ letter) × ((class : Class) → letter_of class ≢ letter))

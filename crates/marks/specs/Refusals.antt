@@ -1,5 +1,5 @@
 -- The numbers of the refusals, and what a call tells its caller. Assumes nothing.
-use Rattle.std.specs.Prelude.{ℕ, Bool, cond, List, [], ◌∷◌, Ok, Err, Result}
+use Rattle.std.specs.Prelude.{ℕ, Bool, cond, List, [], ◌∷◌, ◌++◌, Ok, Err, Result, codes, decimal}
 use Rattle.marks.specs.declared.refusal.Refusal.{Refusal}
 use Rattle.marks.specs.declared.refusal.Refusal.TheVariants.{Size, CutRule, NoSuchTile, WrongLength, ScratchShort, Outside, DeadCell, Text, BufferShort, TileSurveyed, RoundSettled, TilesMissing, RoundOpen, HeapFull, NoLowering, NoMemory}
 
@@ -40,6 +40,10 @@ placed RoundOpen = 0
 placed HeapFull = 0
 placed NoLowering = 0
 placed NoMemory = 0
+
+-- as it is printed: (refused 8 17)
+abbrev pub refusal_text : Refusal → List ℕ
+refusal_text r = codes "(refused " ++ decimal (number r) ++ codes " " ++ decimal (placed r) ++ codes ")"
 
 -- what a call tells: its answer, or the number and the place of its refusal
 pub data Told (X : Type 0) : Type 0 where

@@ -1,16 +1,18 @@
 // Care classes.
-ghost use Rattle.std.specs.Prelude.{◌≡◌, MatchOption, ◌≢◌};
-ghost use Rattle.marks.specs.Classes.{below, letter_of};
+ghost use Rattle.std.specs.Prelude.{◌≡◌};
+ghost use Rattle.marks.specs.Classes.{below, letter_of, Lettered};
 ghost use Rattle.marks.specs.declared.class.Class.TheVariants.{Void};
 ghost use Rattle.std.proofs.Common.{rules};
 
 use crate::kind::Mark;
 use crate::order::Order;
+use std::error::Error;
+use std::fmt;
 
 pub mod codes;
 
-// How the ground may be treated, from open to kept; void where that is not known.
-#[derive(Clone, Copy, PartialEq, Eq, Debug)]
+// How the ground may be treated, from open to kept; void where that is not known. A class is below those that follow it.
+#[derive(Clone, Copy, PartialEq, Eq, PartialOrd, Ord, Debug)]
 pub enum Class {
     Void,
     Open,
@@ -21,12 +23,16 @@ pub enum Class {
     Kept,
 }
 
-impl Class {
-    // The letter that spells it.
-    pub fn letter(self) -> char
-        ensures { result ≡ letter_of self }
-    {
-        match self {
+// A character that spells no class.
+#[derive(Clone, Copy, PartialEq, Eq, Debug)]
+pub struct UnknownLetter(pub char);
+
+// The letter that spells a class.
+impl From<Class> for char {
+    ghost from_gives = { λ class letter. letter ≡ letter_of class };
+
+    fn from(class: Class) -> char {
+        match class {
             Class::Void => '.',
             Class::Open => 'o',
             Class::Strip => 's',
@@ -36,23 +42,35 @@ impl Class {
             Class::Kept => 'k',
         }
     }
+}
 
-    // The class that a letter spells.
-    pub fn from_letter(letter: char) -> Option<Class>
-        ensures { MatchOption result ((x : Class) → letter_of x ≢ letter) (λ x. letter_of x ≡ letter) }
-    {
+// The class that a letter spells.
+impl TryFrom<char> for Class {
+    type Error = UnknownLetter;
+
+    ghost try_from_gives = { Lettered };
+
+    fn try_from(letter: char) -> Result<Class, UnknownLetter> {
         match letter {
-            '.' => Some(Class::Void),
-            'o' => Some(Class::Open),
-            's' => Some(Class::Strip),
-            'm' => Some(Class::Moist),
-            'w' => Some(Class::Wet),
-            'p' => Some(Class::Peat),
-            'k' => Some(Class::Kept),
-            _ => None,
+            '.' => Ok(Class::Void),
+            'o' => Ok(Class::Open),
+            's' => Ok(Class::Strip),
+            'm' => Ok(Class::Moist),
+            'w' => Ok(Class::Wet),
+            'p' => Ok(Class::Peat),
+            'k' => Ok(Class::Kept),
+            _ => Err(UnknownLetter(letter)),
         }
     }
 }
+
+impl fmt::Display for UnknownLetter {
+    fn fmt<W: fmt::Write>(&self, f: &mut fmt::Formatter<W>) -> fmt::Result {
+        write!(f, "no class is spelled {}", self.0)
+    }
+}
+
+impl Error for UnknownLetter {}
 
 impl Order for Class {
     ghost leb = { below };
@@ -64,7 +82,7 @@ impl Order for Class {
     ghost antisymmetric = { Prim.search rules };
 
     fn at_most(&self, other: &Class) -> bool {
-        *self as u8 <= *other as u8
+        self <= other
     }
 }
 

@@ -8,8 +8,9 @@ use crate::order::Order;
 
 pub mod codes;
 
-// A height in whole decimetres, from -32,767 to 32,767, or void, which the least number of 16 bits stands for.
-#[derive(Clone, Copy, PartialEq, Eq, Debug)]
+// A height in whole decimetres, from -32,767 to 32,767, or void, which the least number of 16 bits stands for: no enum, so that a
+// mark is as large as its code, and its order is that of the numbers.
+#[derive(Clone, Copy, PartialEq, Eq, PartialOrd, Ord, Debug)]
 pub struct Height {
     dm: i16,
     ghost fits: { mag dm < 2 ^ 15 },
@@ -20,22 +21,14 @@ impl Height {
     pub fn new(dm: i16) -> Option<Height>
         ensures { MatchOption result (dm ≡ negsuc 32767) (λ h. (h.dm ≡ dm) × (dm ≢ negsuc 32767)) }
     {
-        if dm == i16::MIN {
-            None
-        } else {
-            Some(Height { dm })
-        }
+        (dm != i16::MIN).then_some(Height { dm })
     }
 
     // Its decimetres; none of void.
     pub fn decimetres(self) -> Option<i16>
         ensures { MatchOption result (self.dm ≡ negsuc 32767) (λ n. (n ≡ self.dm) × (n ≢ negsuc 32767)) }
     {
-        if self.dm == i16::MIN {
-            None
-        } else {
-            Some(self.dm)
-        }
+        (self.dm != i16::MIN).then_some(self.dm)
     }
 }
 
@@ -49,7 +42,7 @@ impl Order for Height {
     ghost antisymmetric = { Prim.grind (arith, Self.row.coded.inj) };
 
     fn at_most(&self, other: &Height) -> bool {
-        self.dm <= other.dm
+        self <= other
     }
 }
 

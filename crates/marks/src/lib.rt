@@ -10,7 +10,7 @@ mod spelling;
 #[cfg(test)]
 mod tests;
 
-pub use class::Class;
+pub use class::{Class, UnknownLetter};
 pub use height::Height;
 pub use kind::{CodedMark, Mark, Spelled};
 pub use order::{Order, higher};

@@ -2,7 +2,8 @@
 ghost use Rattle.std.specs.Prelude.{◌≡◌, Bool, true, false};
 ghost use Rattle.marks.specs.Orders.{highest};
 
-// Values of which any two can be compared. Generic code knows an order by these laws alone.
+// Values of which any two can be compared. Generic code knows an order by these laws alone. std's `Ord` stays beside it: it tells
+// which values are equal by `==`, but a sill is one mark because two marks, each at most the other, are the same.
 pub trait Order: Copy {
     // Whether the first is at most the second.
     ghost leb: { Self → Self → Bool };

@@ -1,7 +1,7 @@
 // The bytes by which a mark is spelled.
 ghost use Rattle.std.specs.Prelude.{◌≡◌, ℕ, ◌<◌, ◌≤◌, drop};
 
-// At most six bytes, at the end of an array.
+// At most six bytes, at the end of an array: marks are spelled where there is no heap.
 #[derive(Clone, Copy)]
 pub struct Spelling {
     pub(crate) bytes: [u8; 6],

@@ -1,12 +1,9 @@
-use crate::{Class, CodedMark, Height, Mark, Order, Refusal, Spelled, higher};
+use crate::{Class, CodedMark, Height, Mark, Order, Refusal, Spelled, UnknownLetter, higher};
 use std::test::Fail;
 
 // Decimetres as a height, which the test writes only where they are one.
 fn height(dm: i16) -> Result<Height, Fail> {
-    match Height::new(dm) {
-        Some(height) => Ok(height),
-        None => Err(Fail::new("no height")),
-    }
+    Ok(Height::new(dm).ok_or("no height")?)
 }
 
 #[test]
@@ -52,6 +49,9 @@ fn classes_are_spelled(rt: HostRuntime) {
     assert_eq!(rt; Class::from_spelling(b"."), Some(Class::Void));
     assert_eq!(rt; Class::from_spelling(b"x"), None);
     assert_eq!(rt; Class::from_spelling(b"ok"), None);
+    assert_eq!(rt; char::from(Class::Void), '.');
+    assert_eq!(rt; Class::try_from('k'), Ok(Class::Kept));
+    assert_eq!(rt; Class::try_from('K'), Err(UnknownLetter('K')));
 }
 
 #[test]
@@ -70,4 +70,11 @@ fn refusals_are_numbered(rt: HostRuntime) {
     assert_eq!(rt; Refusal::Text(27).place(), 27);
     assert_eq!(rt; Refusal::NoLowering.number(), 26);
     assert_eq!(rt; Refusal::NoLowering.place(), 0);
+}
+
+#[test]
+fn refusals_are_printed(rt: HostRuntime) -> Result<(), Fail> {
+    let text = format!(in rt.alloc(); "{}", Refusal::Text(27))?;
+    assert_eq!(rt; text.as_str(), "(refused 8 27)");
+    Ok(())
 }

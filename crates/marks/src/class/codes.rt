@@ -21,7 +21,7 @@ impl Spelled for Class {
 
     fn spelling(self) -> Spelling {
         let mut bytes = [b' '; 6];
-        bytes[5] = self.letter() as u8;
+        bytes[5] = char::from(self) as u8;
         Spelling { bytes, start: 5 }
     }
 }
@@ -67,19 +67,16 @@ impl CodedMark for Class {
     }
 
     fn from_spelling(bytes: &[u8]) -> Option<Class> {
-        if bytes.len() != 1 {
-            return None;
+        match bytes {
+            [letter] => Class::try_from(char::from(*letter)).ok(),
+            _ => None,
         }
-        Class::from_letter(bytes[0] as char)
     }
 
     fn shared_beginning(bytes: &[u8]) -> usize {
-        if bytes.is_empty() {
-            return 0;
-        }
-        match Class::from_letter(bytes[0] as char) {
-            Some(_) => 1,
-            None => 0,
+        match bytes {
+            [letter, ..] if Class::try_from(char::from(*letter)).is_ok() => 1,
+            _ => 0,
         }
     }
 }
