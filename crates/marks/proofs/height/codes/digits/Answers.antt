@@ -1,4 +1,4 @@
-use Rattle.std.proofs.Common.{◌≡◌, ◌<◌, ◌≤◌, ℕ, length, decimal, ap, ◌∙◌, append-nil, arith}
+use Rattle.std.proofs.Common.{◌≡◌, ◌<◌, ◌≤◌, ℕ, length, decimal, arith}
 use Rattle.std.proofs.lemmas.Fmt.{length-decimal-le}
 use Rattle.marks.proofs.height.codes.digits.Goals as goal
 
@@ -9,8 +9,5 @@ few n m lt e = length-decimal-le 5 m (omega arith) (omega arith) (omega arith)
 pub write_digits-start-requires : goal.write_digits-start-requires
 write_digits-start-requires c = (omega (arith, few _ _ c.ranges.n.fits c.into.ensures), omega arith)
 
-pub returns : goal.returns
-returns c = record {
-  value = c.write_digits-start.ensures.written ∙ append-nil _ ∙ ap decimal c.into.ensures;
-  room = omega (arith, few _ _ c.ranges.n.fits c.into.ensures, c.write_digits-start.ensures.start);
-}
+pub returns-clause-room : goal.returns-clause-room
+returns-clause-room c = omega (arith, few _ _ c.ranges.n.fits c.into.ensures, c.write_digits-start.ensures.start)

@@ -1,8 +1,5 @@
-use Rattle.marks.specs.Spells.{scanned_whole, scanned_short}
+use Rattle.marks.specs.Spells.{scanned_short}
 use Rattle.marks.proofs.height.codes.HeightCodedMark.from_spelling.Goals as goal
-
-pub returns-then-end-bytes : goal.returns-then-end-bytes
-returns-then-end-bytes c = scanned_whole _ _ _ _ c.scan_height-end.ensures c.if-end-bytes.true
 
 pub returns-else-end-bytes : goal.returns-else-end-bytes
 returns-else-end-bytes c = scanned_short _ _ _ _ c.scan_height-end.ensures c.if-end-bytes.false
