@@ -27,12 +27,8 @@ impl CutList {
         if rows < 1 || rows > 2048 || cols < 1 || cols > 2048 {
             return Err(Refusal::Size);
         }
-        let Some(rows) = Division::new(rows, down) else {
-            return Err(Refusal::CutRule);
-        };
-        let Some(cols) = Division::new(cols, across) else {
-            return Err(Refusal::CutRule);
-        };
+        let rows = Division::new(rows, down).ok_or(Refusal::CutRule)?;
+        let cols = Division::new(cols, across).ok_or(Refusal::CutRule)?;
         Ok(CutList { rows, cols })
     }
 

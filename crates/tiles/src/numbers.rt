@@ -1,6 +1,7 @@
 // The numbers of tiles and mouths. No call looks at all tiles: at most at each band of rows and each band of columns once.
-ghost use Rattle.std.specs.Prelude.{◌≡◌, ◌+◌, ◌*◌, ◌<◌, ◌≤◌, length, Some, MatchOption};
+ghost use Rattle.std.specs.Prelude.{◌≡◌, ◌+◌, ◌*◌, ◌<◌, ◌≤◌, length, Some, MatchOption, MatchResult};
 ghost use Rattle.marks.specs.Refusals.{told, checked, answered};
+ghost use Rattle.marks.specs.declared.refusal.Refusal.TheVariants.{NoSuchTile};
 ghost use Rattle.tiles.specs.Plans.{plan_of, area_of, abreast, tiles, tile_at, tile_of, tile_checks, crossing, spot_of};
 ghost use Rattle.tiles.specs.Mouths.{mouths, passes, mouth_base, tile_mouths, mouth_number};
 ghost use Rattle.tiles.specs.Bandings.{Crossed, InRow, InTile, row_base};
@@ -39,9 +40,7 @@ impl CutList {
     pub fn tile(&self, tile: usize) -> Result<Block, Refusal>
         ensures told { answered area_of (told result) ≡ checked (tile_checks (plan_of self.now) tile) (tile_at (plan_of self.now) tile) }
     {
-        let Some((i, j)) = self.bands_of(tile) else {
-            return Err(Refusal::NoSuchTile);
-        };
+        let (i, j) = self.bands_of(tile)?;
         Ok(self.block(i, j))
     }
 
@@ -49,9 +48,7 @@ impl CutList {
     pub fn first_mouth(&self, tile: usize) -> Result<usize, Refusal>
         ensures told { told result ≡ checked (tile_checks (plan_of self.now) tile) (mouth_base (plan_of self.now) tile) }
     {
-        let Some((i, j)) = self.bands_of(tile) else {
-            return Err(Refusal::NoSuchTile);
-        };
+        let (i, j) = self.bands_of(tile)?;
         Ok(self.mouths_before(i, j))
     }
 
@@ -59,9 +56,7 @@ impl CutList {
     pub fn mouths_of(&self, tile: usize) -> Result<usize, Refusal>
         ensures told { told result ≡ checked (tile_checks (plan_of self.now) tile) (tile_mouths (plan_of self.now) tile) }
     {
-        let Some((i, j)) = self.bands_of(tile) else {
-            return Err(Refusal::NoSuchTile);
-        };
+        let (i, j) = self.bands_of(tile)?;
         Ok(self.block(i, j).mouths())
     }
 
@@ -105,15 +100,15 @@ impl CutList {
         })
     }
 
-    // The band of rows and the band of columns that cross in a tile; none if there is no such tile.
-    fn bands_of(&self, tile: usize) -> Option<(usize, usize)>
-        ensures { MatchOption result (tiles (plan_of self.now) ≤ tile) (λ b. Crossed (plan_of self.now) tile b.0 b.1) }
+    // The band of rows and the band of columns that cross in a tile.
+    fn bands_of(&self, tile: usize) -> Result<(usize, usize), Refusal>
+        ensures { MatchResult result (λ b. Crossed (plan_of self.now) tile b.0 b.1) (λ e. (e ≡ NoSuchTile) × (tiles (plan_of self.now) ≤ tile)) }
     {
         if tile >= self.tiles() {
-            return None;
+            return Err(Refusal::NoSuchTile);
         }
         let abreast = self.cols.bands();
-        Some((tile / abreast, tile % abreast))
+        Ok((tile / abreast, tile % abreast))
     }
 
     // The tile where a band of rows and a band of columns cross.

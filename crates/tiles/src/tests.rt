@@ -4,21 +4,15 @@ use marks::Refusal;
 use std::process::Abort;
 use std::test::Fail;
 
-// The number of the refusal of sides and cuts, and 0 if they are accepted.
-fn refusal(rows: usize, down: &[usize], cols: usize, across: &[usize]) -> u8 {
-    match CutList::new(rows, down, cols, across) {
-        Ok(_) => 0,
-        Err(e) => e.number(),
-    }
+// The number of the refusal of sides and cuts; none if they are accepted.
+fn refusal(rows: usize, down: &[usize], cols: usize, across: &[usize]) -> Option<u8> {
+    let refusal = CutList::new(rows, down, cols, across).err()?;
+    Some(refusal.number())
 }
 
 // 32 cuts, each so far from the one before.
 fn every(step: u8) -> [usize; 32] {
-    let mut cuts = [0; 32];
-    for k in 0..32 {
-        cuts[k] = (k + 1) * step as usize;
-    }
-    cuts
+    std::array::from_fn(|k| (k + 1) * usize::from(step))
 }
 
 // The mouths of an uncut sheet are these, in this order, and no others.
@@ -37,27 +31,27 @@ fn listed(rt: &impl Abort, rows: usize, cols: usize, cells: &[(usize, usize)]) -
 #[test]
 fn sides_are_checked_first(rt: HostRuntime) {
     let cuts = every(64);
-    assert_eq!(rt; refusal(2048, &cuts[0..31], 2048, &cuts[0..31]), 0);
-    assert_eq!(rt; refusal(2049, &cuts[0..31], 2048, &cuts[0..31]), 1);
-    assert_eq!(rt; refusal(2048, &cuts[0..31], 2049, &cuts[0..31]), 1);
-    assert_eq!(rt; refusal(0, &[], 1, &[]), 1);
-    assert_eq!(rt; refusal(1, &[0], 0, &[]), 1);
-    assert_eq!(rt; refusal(1, &[0], 1, &[]), 2);
+    assert_eq!(rt; refusal(2048, &cuts[0..31], 2048, &cuts[0..31]), None);
+    assert_eq!(rt; refusal(2049, &cuts[0..31], 2048, &cuts[0..31]), Some(1));
+    assert_eq!(rt; refusal(2048, &cuts[0..31], 2049, &cuts[0..31]), Some(1));
+    assert_eq!(rt; refusal(0, &[], 1, &[]), Some(1));
+    assert_eq!(rt; refusal(1, &[0], 0, &[]), Some(1));
+    assert_eq!(rt; refusal(1, &[0], 1, &[]), Some(2));
 }
 
 #[test]
 fn cuts_keep_the_rules(rt: HostRuntime) {
-    assert_eq!(rt; refusal(64, &[], 1, &[]), 0);
-    assert_eq!(rt; refusal(65, &[], 1, &[]), 2);
-    assert_eq!(rt; refusal(128, &[64], 1, &[]), 0);
-    assert_eq!(rt; refusal(128, &[65], 1, &[]), 2);
-    assert_eq!(rt; refusal(1, &[], 8, &[1, 7]), 0);
-    assert_eq!(rt; refusal(1, &[], 8, &[0, 7]), 2);
-    assert_eq!(rt; refusal(1, &[], 8, &[1, 8]), 2);
-    assert_eq!(rt; refusal(1, &[], 8, &[4, 4]), 2);
+    assert_eq!(rt; refusal(64, &[], 1, &[]), None);
+    assert_eq!(rt; refusal(65, &[], 1, &[]), Some(2));
+    assert_eq!(rt; refusal(128, &[64], 1, &[]), None);
+    assert_eq!(rt; refusal(128, &[65], 1, &[]), Some(2));
+    assert_eq!(rt; refusal(1, &[], 8, &[1, 7]), None);
+    assert_eq!(rt; refusal(1, &[], 8, &[0, 7]), Some(2));
+    assert_eq!(rt; refusal(1, &[], 8, &[1, 8]), Some(2));
+    assert_eq!(rt; refusal(1, &[], 8, &[4, 4]), Some(2));
     let cuts = every(1);
-    assert_eq!(rt; refusal(1, &[], 40, &cuts[0..31]), 0);
-    assert_eq!(rt; refusal(1, &[], 40, &cuts), 2);
+    assert_eq!(rt; refusal(1, &[], 40, &cuts[0..31]), None);
+    assert_eq!(rt; refusal(1, &[], 40, &cuts), Some(2));
 }
 
 #[test]
@@ -98,9 +92,7 @@ fn mouths_in_reading_order(rt: HostRuntime) -> Result<(), Fail> {
 
 // The cell of a mouth of an uncut sheet of 64 by 64 cells.
 fn in_large(number: usize) -> Option<(usize, usize)> {
-    let Ok(list) = CutList::new(64, &[], 64, &[]) else {
-        return None;
-    };
+    let list = CutList::new(64, &[], 64, &[]).ok()?;
     let mouth = list.mouth(number)?;
     Some((mouth.row, mouth.col))
 }
