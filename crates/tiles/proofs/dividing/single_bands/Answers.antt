@@ -6,9 +6,6 @@ use Rattle.tiles.proofs.dividing.single_bands.Goals.{then-c-last-eq1, else-c-las
 pub loop-c-init : goal.loop-c-init
 loop-c-init c = scan_none _ _
 
-pub returns-then-not-band_fits : goal.returns-then-not-band_fits
-returns-then-not-band_fits c = bad_cut _ _ _ _ c.args.cuts.now _ c.if-cuts-gt-MAX_CUTS.false c.loop-c.invariant c.loop-c-test.true (sym c.if-not-band_fits.ensures)
-
 pub overflow_add-single : goal.overflow_add-single
 overflow_add-single c = let few = scan_few _ _ _ _ _ c.loop-c.invariant in omega arith
 
@@ -19,9 +16,6 @@ loop-c-preserved c =
       | then-c-last-eq1 w ↦ rw (w.last-is, w.single-is) (scan_single _ _ _ _ c.args.cuts.now c.loop-c.invariant c.loop-c-test.true fit w.if-c-last-eq1.true)
       | else-c-last-eq1 w ↦ rw (w.last-is, w.single-is) (scan_longer _ _ _ _ c.args.cuts.now c.loop-c.invariant c.loop-c-test.true fit w.if-c-last-eq1.false)
     ]
-
-pub returns-then-not-band_fits-2 : goal.returns-then-not-band_fits-2
-returns-then-not-band_fits-2 c = bad_end _ _ _ _ c.args.cuts.now _ c.if-cuts-gt-MAX_CUTS.false c.loop-c.invariant c.loop-c-test.false (sym c.if-not-band_fits-2.ensures)
 
 pub overflow_add-single-then-side-last-eq1 : goal.overflow_add-single-then-side-last-eq1
 overflow_add-single-then-side-last-eq1 c = let few = scan_few _ _ _ _ _ c.loop-c.invariant in omega arith

@@ -5,12 +5,6 @@ use Rattle.tiles.specs.Mouths.{border, mouth_base}
 use Rattle.tiles.proofs.Numberings.{row_start, row_over, base_column, tile_mouths_lem}
 use Rattle.tiles.proofs.cuts.CutList.column_of.Goals as goal
 
-pub loop-j-init : goal.loop-j-init
-loop-j-init c = omega (arith, row_start (plan_of c.args.self.now) c.args.i)
-
-pub block-requires : goal.block-requires
-block-requires c = (c.requires, omega (arith, c.loop-j-test.true, c.bands-j-end.ensures))
-
 pub returns-then-left-here : goal.returns-then-left-here
 returns-then-left-here c =
     let p = plan_of c.args.self.now in
@@ -24,9 +18,3 @@ pub loop-j-preserved : goal.loop-j-preserved
 loop-j-preserved c =
     let p = plan_of c.args.self.now in
     omega (arith, c.loop-j.invariant, c.if-left-here.false, c.mouths-here.ensures, ap (λ a. border (height a) (width a)) c.block.ensures, base_column p c.args.i c.loop-j.j (omega (arith, c.loop-j-test.true, c.bands-j-end.ensures)))
-
-pub returns : goal.returns
-returns c =
-    let p = plan_of c.args.self.now in
-    let end : c.loop-j.j ≡ abreast p = omega (arith, c.loop-j-test.false, c.loop-j.auto.j-end, c.bands-j-end.ensures) in
-    omega (arith, c.loop-j.invariant, ap (λ n. mouth_base p (c.args.i * abreast p + n)) end, row_over p c.args.i)

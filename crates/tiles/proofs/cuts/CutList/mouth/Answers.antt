@@ -9,14 +9,6 @@ returns-in_err-row c =
     let there = mouth_there (plan_of c.args.self.now) _ _ _ _ _ c.in_ok-j.ensures c.block.ensures in
     rw c.from_residual-in_err-row.ensures (absurd (omega (arith, there, c.in_err-row.ensures)))
 
-pub overflow_add-result : goal.overflow_add-result
-overflow_add-result c =
-    let p = plan_of c.args.self.now in
-    omega (arith, tile_small p _ _ _ (lawful_plan c.args.self.now) c.in_ok-i.ensures.exists c.in_ok-j.ensures.exists c.bands.ensures)
-
-pub overflow_mul-result : goal.overflow_mul-result
-overflow_mul-result c = let whole = overflow_add-result c in omega arith
-
 pub returns : goal.returns
 returns c =
     let p = plan_of c.args.self.now in

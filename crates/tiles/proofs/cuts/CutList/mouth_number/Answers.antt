@@ -11,11 +11,6 @@ block-requires c =
     let p = plan_of c.args.self.now in
     (omega (arith, c.band_of-i.ensures, band_few p.down c.args.row), omega (arith, c.band_of-j.ensures, band_few p.across c.args.col))
 
-pub mouths_before-requires : goal.mouths_before-requires
-mouths_before-requires c =
-    let p = plan_of c.args.self.now in
-    (omega (arith, c.band_of-i.ensures, band_few p.down c.args.row), omega (arith, c.band_of-j.ensures, band_few p.across c.args.col))
-
 pub returns-in_err-index : goal.returns-in_err-index
 returns-in_err-index c =
     c.from_residual.ensures

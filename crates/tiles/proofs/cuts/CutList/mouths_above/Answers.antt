@@ -12,11 +12,3 @@ pub overflow_add-sum : goal.overflow_add-sum
 overflow_add-sum c =
     let p = plan_of c.args.self.now in
     omega (arith, c.row_mouths-sum.ensures, c.loop-i.invariant, row_small p (c.loop-i.i + 1) (lawful_plan c.args.self.now) (omega arith))
-
-pub loop-i-preserved : goal.loop-i-preserved
-loop-i-preserved c = omega (arith, c.row_mouths-sum.ensures, c.loop-i.invariant)
-
-pub returns : goal.returns
-returns c =
-    let end : c.loop-i.i ≡ c.args.bands = omega arith in
-    c.loop-i.invariant ∙ ap (row_base (plan_of c.args.self.now)) end

@@ -6,12 +6,6 @@ use Rattle.tiles.specs.Mouths.{mouth_base, border}
 use Rattle.tiles.proofs.Numberings.{row_start, base_column, column_small}
 use Rattle.tiles.proofs.cuts.CutList.mouths_before.Goals as goal
 
-pub loop-k-init : goal.loop-k-init
-loop-k-init c = c.mouths_above-sum.ensures ∙ sym (row_start (plan_of c.args.self.now) c.args.i)
-
-pub block-requires : goal.block-requires
-block-requires c = (omega (arith, c.requires), omega (arith, c.requires, c.loop-k-test.true))
-
 -- one tile further
 next : (c : goal.After-mouths-sum) → let p = plan_of c.args.self.now in c.loop-k.sum + c.mouths-sum.result ≡ mouth_base p (c.args.i * abreast p + (c.loop-k.k + 1))
 next c =
@@ -25,9 +19,3 @@ overflow_add-sum c =
 
 pub loop-k-preserved : goal.loop-k-preserved
 loop-k-preserved c = next c
-
-pub returns : goal.returns
-returns c =
-    let p = plan_of c.args.self.now in
-    let end : c.loop-k.k ≡ c.args.j = omega arith in
-    c.loop-k.invariant ∙ ap (λ n. mouth_base p (c.args.i * abreast p + n)) end
