@@ -37,13 +37,8 @@ fn keep_sills<M: Mark>(mouths: &mut [MouthRecord<M>], levels: &[Option<M>], coun
     requires { (count ≤ length mouths.old) × (count ≤ length levels.now) }
     ensures { Kept mouths.old levels.now count mouths.new }
 {
-    for k in 0..count {
-        let record = mouths[k];
-        let settled = MouthRecord {
-            mark: record.mark,
-            sill: levels[k],
-        };
-        mouths[k] = settled;
+    for (k, level) in levels[..count].iter().enumerate() {
+        mouths[k].sill = *level;
     }
 }
 

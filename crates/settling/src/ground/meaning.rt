@@ -1,22 +1,22 @@
 // What the ground of mouths answers.
-ghost use Rattle.std.specs.Prelude.{◌≡◌, ℕ, ◌+◌, ◌-◌, ◌<◌, ◌≤◌, ◌&&◌, length, if◌then◌else◌, None, nat_le, nat_lt};
+ghost use Rattle.std.specs.Prelude.{◌≡◌, ℕ, ◌+◌, ◌-◌, ◌<◌, ◌≤◌, ◌&&◌, length, take, drop, if◌then◌else◌, None, nat_le, nat_lt};
 ghost use Rattle.std.specs.List.{slice_get};
 ghost use Rattle.terrain.specs.Cells.{place as cell_at};
 ghost use Rattle.terrain.specs.CellGrounds.{at_edge};
 ghost use Rattle.terrain.specs.Terrains.{kind_of};
 ghost use Rattle.tiles.specs.Plans.{plan_of, tiles};
-ghost use Rattle.tiles.specs.Mouths.{mouths as all_mouths, passes as all_passes, tile_mouths};
+ghost use Rattle.tiles.specs.Mouths.{mouths as all_mouths, passes as all_passes, mouth_base, pass_base, tile_mouths};
 ghost use Rattle.tiles.proofs.Tilings.{lawful_plan};
-ghost use Rattle.tables.specs.Picks.{picked};
 ghost use Rattle.tables.specs.Records.{tables};
-ghost use Rattle.tables.specs.Links.{around, seam_level, seam_at, far_end, pass_at, tile_of_mouth, mouth_crossings, mouth_drain};
+ghost use Rattle.tables.specs.Links.{around, seam_level, seam_at, far_end, mouth_crossings, mouth_drain};
 ghost use Rattle.tables.proofs.Linked.{mouth_laws};
-ghost use Rattle.settling.specs.Grounds.{Stands, FoundAt};
+ghost use Rattle.settling.specs.Grounds.{Stands};
 
 use crate::ground::MouthGround;
 use flood::Ground;
 use marks::{Mark, higher};
 use sheets::Place;
+use std::ops::Range;
 use tables::{MouthRecord, PassRecord};
 use tiles::{CutList, Mouth};
 
@@ -35,12 +35,16 @@ impl<'a, 'b, M: Mark> Ground for MouthGround<'a, 'b, M> {
         self.cuts.mouths()
     }
 
+    // Those over seams come first, and then those by the tile's passes.
     fn crossing(&self, node: usize, place: usize) -> Option<(usize, M)> {
         let mouth = self.cuts.mouth(node)?;
-        match nth_seam(&self.cuts, self.mouths, node, mouth, place) {
-            Ok(link) => Some(link),
-            Err(left) => nth_pass(&self.cuts, self.passes, node, mouth.tile, left),
-        }
+        let numbers = tile_numbers(&self.cuts, mouth.tile);
+        let passes = tile_passes(&self.cuts, self.passes, mouth.tile, &numbers);
+        let seams = (0..9).filter_map(|k| seam_link(&self.cuts, self.mouths, node, mouth, k));
+        let links = passes
+            .iter()
+            .filter_map(|pass| pass_link(*pass, node, &numbers));
+        seams.chain(links).nth(place)
     }
 
     fn drain(&self, node: usize) -> Option<M> {
@@ -114,79 +118,52 @@ fn seam_link<M: Mark>(
     Some((far, seam_level(mouths, node, far)))
 }
 
-// The link of a mouth over a seam that has a place among these; past them, how far.
-fn nth_seam<M: Mark>(
-    cuts: &CutList,
-    mouths: &[MouthRecord<M>],
-    node: usize,
-    mouth: Mouth,
-    place: usize,
-) -> Result<(usize, M), usize>
-    requires room { all_mouths (plan_of cuts.now) ≤ length mouths.now }
-    requires here { Stands (plan_of cuts.now) node mouth }
-    ensures { FoundAt (picked (seam_at (kind_of M.Order M.Mark.lowest) (plan_of cuts.now) mouths.now node) 0 9) place result }
+// The numbers of a tile's mouths.
+fn tile_numbers(cuts: &CutList, tile: usize) -> Range<usize>
+    requires { tile < tiles (plan_of cuts.now) }
+    ensures start { result.start ≡ mouth_base (plan_of cuts.now) tile }
+    ensures end { result.end ≡ mouth_base (plan_of cuts.now) (tile + 1) }
 {
-    let mut left = place;
-    for k in 0..9 {
-        if let Some(link) = seam_link(cuts, mouths, node, mouth, k) {
-            if left == 0 {
-                return Ok(link);
-            }
-            left -= 1;
-        }
+    match (cuts.first_mouth(tile), cuts.mouths_of(tile)) {
+        (Ok(first), Ok(count)) => first..first + count,
+        _ => unreachable(),
     }
-    Err(left)
 }
 
-// The link from a mouth by a pass, if that joins it to another, and both have numbers from `first` up to `next`.
+// The records of a tile's passes, one fewer than its mouths.
+fn tile_passes<'a, M>(
+    cuts: &CutList,
+    passes: &'a [PassRecord<M>],
+    tile: usize,
+    numbers: &Range<usize>,
+) -> &'a [PassRecord<M>]
+    requires room { all_passes (plan_of cuts.now) ≤ length passes.now }
+    requires tile { tile < tiles (plan_of cuts.now) }
+    requires start { numbers.now.start ≡ mouth_base (plan_of cuts.now) tile }
+    requires end { numbers.now.end ≡ mouth_base (plan_of cuts.now) (tile + 1) }
+    ensures { result.now ≡ take (tile_mouths (plan_of cuts.now) tile - 1) (drop (pass_base (plan_of cuts.now) tile) passes.now) }
+{
+    let start = numbers.start - tile;
+    let count = numbers.end - numbers.start - 1;
+    &passes[start..start + count]
+}
+
+// The link from a mouth by a pass, if that joins it to another, and both have numbers among these.
 fn pass_link<M: Mark>(
     pass: PassRecord<M>,
     node: usize,
-    first: usize,
-    next: usize,
+    numbers: &Range<usize>,
 ) -> Option<(usize, M)>
-    ensures { result ≡ (if (nat_le first pass.from && nat_lt pass.from next) && (nat_le first pass.to && nat_lt pass.to next) then far_end node pass else None) }
+    ensures { result ≡ (if (nat_le numbers.now.start pass.from && nat_lt pass.from numbers.now.end) && (nat_le numbers.now.start pass.to && nat_lt pass.to numbers.now.end) then far_end node pass else None) }
 {
-    let from = pass.from;
-    let to = pass.to;
-    if from < first || from >= next || to < first || to >= next {
+    if !numbers.contains(&pass.from) || !numbers.contains(&pass.to) {
         return None;
     }
-    if from == node {
-        return Some((to, pass.level));
+    if pass.from == node {
+        return Some((pass.to, pass.level));
     }
-    if to == node {
-        return Some((from, pass.level));
-    }
-    None
-}
-
-// The link of a mouth of a tile by the tile's passes that has a place among these.
-fn nth_pass<M: Mark>(
-    cuts: &CutList,
-    passes: &[PassRecord<M>],
-    node: usize,
-    tile: usize,
-    place: usize,
-) -> Option<(usize, M)>
-    requires room { all_passes (plan_of cuts.now) ≤ length passes.now }
-    requires tile { (tile ≡ tile_of_mouth (plan_of cuts.now) node) × (tile < tiles (plan_of cuts.now)) }
-    ensures { result ≡ slice_get (picked (pass_at (plan_of cuts.now) passes.now node) 0 (tile_mouths (plan_of cuts.now) tile - 1)) place }
-{
-    let Ok(first) = cuts.first_mouth(tile) else {
-        return None;
-    };
-    let Ok(count) = cuts.mouths_of(tile) else {
-        return None;
-    };
-    let mut left = place;
-    for k in 0..count - 1 {
-        if let Some(link) = pass_link(passes[first - tile + k], node, first, first + count) {
-            if left == 0 {
-                return Some(link);
-            }
-            left -= 1;
-        }
+    if pass.to == node {
+        return Some((pass.from, pass.level));
     }
     None
 }

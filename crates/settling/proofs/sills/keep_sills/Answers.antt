@@ -1,18 +1,12 @@
-use Rattle.std.proofs.Common.{◌≡◌, ℕ, zero, suc, ◌+◌, ◌<◌, List, [], ◌∷◌, length, get_or, drop, set, Some, None, Option, sym, refl, ap, ◌∙◌, ⊎_elim, arith, drop-drop, drop-set-lt, rules}
+use Rattle.std.proofs.Common.{◌≡◌, ℕ, zero, suc, ◌+◌, ◌<◌, List, [], ◌∷◌, length, get_or, take, drop, set, Some, None, Option, sym, refl, ap, ◌∙◌, ⊎_elim, arith, drop-drop, drop-set-lt}
 use Rattle.std.proofs.lemmas.Bool.{cases_eq}
 use Rattle.std.specs.List.{slice_get}
 use Rattle.std.proofs.lemmas.Option.{slice_get_read}
-use Rattle.std.proofs.lemmas.List.{get_or_read}
+use Rattle.std.proofs.lemmas.List.{get_or_read, get_or-take, length-take-le}
 use Rattle.tables.specs.declared.records.MouthRecord.{MouthRecord}
 use Rattle.tables.specs.Records.{mouth_with}
 use Rattle.settling.specs.Grounds.{Kept}
 use Rattle.settling.proofs.sills.keep_sills.Goals as goal
-
-pub offset_bounds-mouths-k : goal.offset_bounds-mouths-k
-offset_bounds-mouths-k g c = let h : c.loop-k.k < length c.args.mouths.now = omega (arith, c.requires, c.loop-k-test.true) in search rules
-
-pub offset_bounds-mouths-k-in-loop-k : goal.offset_bounds-mouths-k-in-loop-k
-offset_bounds-mouths-k-in-loop-k g c = let h : c.loop-k.k < length c.args.mouths.now = omega (arith, c.requires, c.loop-k-test.true) in search rules
 
 -- what stands elsewhere, and in the place that was written
 nth_other : {X : Type 0} (xs : List X) (i k : ℕ) (x : X) → (i ≡ k → ⊥) → slice_get (set xs k x) i ≡ slice_get xs i
@@ -57,10 +51,14 @@ more ms ls k now r l s h read is = record {
 
 pub loop-k-preserved : goal.loop-k-preserved
 loop-k-preserved g c =
-    let lt : c.loop-k.k < length c.loop-k.mouths = omega (arith, c.loop-k.auto.mouths, c.requires, c.loop-k-test.true) in
-    let in-levels : c.loop-k.k < length c.args.levels.now = omega (arith, c.requires, c.loop-k-test.true) in
-    more c.args.mouths.now c.args.levels.now c.loop-k.k c.loop-k.mouths c.index-mouths-k.result c.index-levels-k.result c.loop-k.invariant lt c.index-mouths-k.is
-    (get_or_read c.args.levels.now c.loop-k.k c.index-levels-k.result in-levels c.index-levels-k.is None)
+    let all : length (take c.args.count c.args.levels.now) ≡ c.args.count = length-take-le c.args.count c.args.levels.now c.requires.1 in
+    let here : c.loop-k.k < c.args.count = omega (arith, all, c.loop-k-test.true) in
+    let lt : c.loop-k.k < length c.loop-k.mouths = omega (arith, c.loop-k.auto.mouths, c.requires, here) in
+    let level = get_or_read (take c.args.count c.args.levels.now) c.loop-k.k c.level-item.result c.loop-k-test.true c.level-item.is None ∙ get_or-take c.args.count c.args.levels.now c.loop-k.k None here in
+    rw (sym c.index-mouths-k.is) (more c.args.mouths.now c.args.levels.now c.loop-k.k c.loop-k.mouths c.index-mouths-k.result c.level-item.result c.loop-k.invariant lt c.index-mouths-k.is level)
 
 pub returns : goal.returns
-returns g c = let e : c.loop-k.k ≡ c.args.count = omega (arith, c.loop-k.auto.k-end, c.loop-k-test.false) in rw (sym e) c.loop-k.invariant
+returns g c =
+    let all : length (take c.args.count c.args.levels.now) ≡ c.args.count = length-take-le c.args.count c.args.levels.now c.requires.1 in
+    let e : c.loop-k.k ≡ c.args.count = omega (arith, all, c.loop-k.auto.k-end, c.loop-k-test.false) in
+    rw (sym e) c.loop-k.invariant

@@ -49,12 +49,6 @@ settled κ p w ls os n ms is f k = record {
   passes = refl;
 }
 
-pub returns-in_err-flood_mouths : goal.returns-in_err-flood_mouths
-returns-in_err-flood_mouths g c =
-    let p = err_from_is_err_and c.from_residual.result c.from_residual.ensures.1 in
-    let left = c.in_err-flood_mouths.ensures.leaves in
-    rw (p.1, p.2) (record { told = c.in_err-flood_mouths.ensures.told; leaves = refl; sills = tt; scratch = (left.0, (left.1, left.2)) })
-
 pub keep_sills-requires : goal.keep_sills-requires
 keep_sills-requires g c =
     let r = roomy (plan_of c.args.cuts.now) (length c.args.mouths.now) (length c.args.passes.now) c.args.levels.now c.args.origins.now c.args.heap.now c.in_ok-flood_mouths.ensures.told in

@@ -40,15 +40,6 @@ returns-in_err-cell g c =
     ∙ sym (seam_outside (kind_of g.M.Order g.M.Mark.lowest) p c.sides-rows.ensures.rules c.args.mouths.now c.args.node c.args.k m.row m.col c.requires.here.number
     (looked p c.sides-rows.result (place m.row m.col) c.args.k None c.around.result c.sides-rows.ensures.value c.around.ensures c.in_err-cell.was))
 
-pub returns-in_err-spot : goal.returns-in_err-spot
-returns-in_err-spot g c =
-    let p = plan_of c.args.cuts.now in
-    let m = c.args.mouth in
-    let d = c.in_ok-cell.cell in
-    absurd (seam_spot (kind_of g.M.Order g.M.Mark.lowest) p c.sides-rows.ensures.rules c.args.mouths.now c.args.node c.args.k m.row m.col c.requires.here.number d
-    (looked p c.sides-rows.result (place m.row m.col) c.args.k (Some d) c.around.result c.sides-rows.ensures.value c.around.ensures c.in_ok-cell.was)
-    (sym c.spot.ensures ∙ c.in_err-spot.was))
-
 pub returns-then-spot-mouth : goal.returns-then-spot-mouth
 returns-then-spot-mouth g c =
     let p = plan_of c.args.cuts.now in
