@@ -1,17 +1,25 @@
 -- Whether a tile is missing. Assumes nothing.
-use Rattle.std.proofs.Common.{◌≡◌, ℕ, zero, suc, ◌+◌, ◌<◌, Bool, true, false, not, ◌||◌, get_or, replicate, sym, refl, ap, ◌∙◌, ap₂, ⊎_elim, add-one, arith}
-use Rattle.std.proofs.lemmas.Bool.{cases_eq, or_left, or_right}
+use Rattle.std.proofs.Common.{◌≡◌, ℕ, zero, suc, ◌≤◌, Bool, true, false, not, ◌||◌, List, [], ◌∷◌, length, get_or, take, replicate, refl, sym, ap, ◌∙◌, arith}
+use Rattle.std.specs.List.{list_any}
+use mathlib.Core.Bool.{beq}
 use Rattle.round.specs.Rounds.{missing_below}
 
-pub some_missing : (f : ℕ → Bool) (n t : ℕ) → t < n → f t ≡ false → missing_below f n ≡ true
-some_missing f zero t h e = absurd (omega arith)
-some_missing f (suc n) t h e = ⊎_elim
-    (λ (here : t ≡ n). or_left (not (f n)) (missing_below f n) (ap not (ap f (sym here) ∙ e)))
-    (λ (other : t ≡ n → ⊥). or_right (not (f n)) (missing_below f n) (some_missing f n t (omega (arith, other)) e))
-    (cases_eq t n)
+swapped : (a b c : Bool) → (a || (b || c)) ≡ (b || (a || c))
+swapped true true c = refl
+swapped true false c = refl
+swapped false true c = refl
+swapped false false c = refl
 
-pub none_more : (f : ℕ → Bool) (t : ℕ) → f t ≡ true → missing_below f t ≡ false → missing_below f (t + 1) ≡ false
-none_more f t e h = ap (missing_below f) (add-one t) ∙ ap₂ (λ x y. not x || y) e h
+-- the first tile, and those behind it
+front : (s : ℕ → Bool) (n : ℕ) → missing_below s (suc n) ≡ (not (s 0) || missing_below (λ k. s (suc k)) n)
+front s zero = refl
+front s (suc n) = ap (λ b. not (s (suc n)) || b) (front s n) ∙ swapped (not (s (suc n))) (not (s 0)) (missing_below (λ k. s (suc k)) n)
+
+pub some_false : (xs : List Bool) (n : ℕ) → n ≤ length xs → list_any (λ y. beq y false) (take n xs) ≡ missing_below (λ t. get_or xs t false) n
+some_false xs zero le = refl
+some_false [] (suc n) le = absurd (omega arith)
+some_false (true ∷ xs) (suc n) le = some_false xs n (omega arith) ∙ sym (front (λ t. get_or (true ∷ xs) t false) n)
+some_false (false ∷ xs) (suc n) le = sym (front (λ t. get_or (false ∷ xs) t false) n)
 
 pub none_set : (n t : ℕ) → get_or (replicate n false) t false ≡ false
 none_set zero t = refl

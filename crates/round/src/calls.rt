@@ -44,12 +44,7 @@ impl Round {
     pub fn tiles_missing(&self) -> bool
         ensures { result ≡ tiles_missing self.now }
     {
-        for t in 0..self.cuts.tiles() {
-            if !self.surveyed[t] {
-                return true;
-            }
-        }
-        false
+        self.surveyed[..self.cuts.tiles()].contains(&false)
     }
 
     // Whether the round takes a call, by its own state: the one place that decides it.
@@ -57,8 +52,7 @@ impl Round {
         ensures { told result ≡ checked (call_checks self.now call) tt }
     {
         match (self.state, call) {
-            (State::Settled, Call::Survey(_)) => Err(Refusal::RoundSettled),
-            (State::Settled, Call::Settle) => Err(Refusal::RoundSettled),
+            (State::Settled, Call::Survey(_) | Call::Settle) => Err(Refusal::RoundSettled),
             (State::Settled, Call::Finish(tile)) => self.find(tile),
             (State::Open, Call::Survey(tile)) => self.may_survey(tile),
             (State::Open, Call::Settle) => self.may_settle(),

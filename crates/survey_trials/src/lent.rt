@@ -1,7 +1,8 @@
 // Surveys with tables and scratch of chosen lengths.
 use flood::Entry;
-use marks::{Class, Height, Mark, Refusal};
+use marks::{Mark, Refusal};
 use sheets::Sheet;
+use std::alloc::Global;
 use surveying::{SurveyScratch, survey_tile};
 use tables::{MouthRecord, PassRecord};
 use tiles::CutList;
@@ -33,133 +34,40 @@ impl Lent {
     }
 }
 
-// A survey in these slices.
-fn survey_in<S: Sheet>(
+// The first places of a slice.
+fn part<T>(slice: &mut [T], len: usize) -> Result<&mut [T], Refusal> {
+    slice.get_mut(..len).ok_or(Refusal::Size)
+}
+
+// A survey with tables and slices of these lengths, which are 12 at most for scratch.
+pub(crate) fn survey<S: Sheet>(
+    alloc: Global,
     cuts: &CutList,
     source: &S,
     tile: usize,
     mouths: &mut [MouthRecord<S::Mark>],
     passes: &mut [PassRecord<S::Mark>],
-    marks: &mut [S::Mark],
-    levels: &mut [Option<S::Mark>],
-    origins: &mut [Option<usize>],
-    heap: &mut [Entry<S::Mark>],
-    joins: &mut [usize],
+    lent: Lent,
 ) -> Result<usize, Refusal> {
+    let void = S::Mark::void();
+    let entry = Entry {
+        level: void,
+        node: 0,
+        origin: 0,
+    };
+    let mut marks = vec![in alloc; void; 12]?;
+    let mut levels = vec![in alloc; None; 12]?;
+    let mut origins = vec![in alloc; None; 12]?;
+    let mut heap = vec![in alloc; entry; 12]?;
+    let mut joins = vec![in alloc; 0; 12]?;
+    let mouths = part(mouths, lent.mouths)?;
+    let passes = part(passes, lent.passes)?;
     let mut scratch = SurveyScratch {
-        marks,
-        levels,
-        origins,
-        heap,
-        joins,
+        marks: part(marks.as_mut_slice(), lent.marks)?,
+        levels: part(levels.as_mut_slice(), lent.levels)?,
+        origins: part(origins.as_mut_slice(), lent.origins)?,
+        heap: part(heap.as_mut_slice(), lent.heap)?,
+        joins: part(joins.as_mut_slice(), lent.joins)?,
     };
     survey_tile(cuts, source, tile, mouths, passes, &mut scratch)
-}
-
-// A survey with the first places of these tables and slices.
-fn survey_part<S: Sheet>(
-    cuts: &CutList,
-    source: &S,
-    tile: usize,
-    mouths: &mut [MouthRecord<S::Mark>],
-    passes: &mut [PassRecord<S::Mark>],
-    marks: &mut [S::Mark],
-    levels: &mut [Option<S::Mark>],
-    origins: &mut [Option<usize>],
-    heap: &mut [Entry<S::Mark>],
-    joins: &mut [usize],
-    lent: Lent,
-) -> Result<usize, Refusal> {
-    let (a, b) = (lent.mouths, lent.passes);
-    if mouths.len() < a || passes.len() < b {
-        return Err(Refusal::Size);
-    }
-    let (m, l, o) = (lent.marks, lent.levels, lent.origins);
-    if marks.len() < m || levels.len() < l || origins.len() < o {
-        return Err(Refusal::Size);
-    }
-    let (h, j) = (lent.heap, lent.joins);
-    if heap.len() < h || joins.len() < j {
-        return Err(Refusal::Size);
-    }
-    survey_in(
-        cuts,
-        source,
-        tile,
-        &mut mouths[0..a],
-        &mut passes[0..b],
-        &mut marks[0..m],
-        &mut levels[0..l],
-        &mut origins[0..o],
-        &mut heap[0..h],
-        &mut joins[0..j],
-    )
-}
-
-// A survey of heights with tables and slices of these lengths, which are 12 at most for scratch.
-pub(crate) fn survey_heights<S: Sheet<Mark = Height>>(
-    cuts: &CutList,
-    source: &S,
-    tile: usize,
-    mouths: &mut [MouthRecord<Height>],
-    passes: &mut [PassRecord<Height>],
-    lent: Lent,
-) -> Result<usize, Refusal> {
-    let void = Height::void();
-    let mut marks = [void; 12];
-    let mut levels = [None; 12];
-    let mut origins = [None; 12];
-    let mut heap = [Entry {
-        level: void,
-        node: 0,
-        origin: 0,
-    }; 12];
-    let mut joins = [0; 12];
-    survey_part(
-        cuts,
-        source,
-        tile,
-        mouths,
-        passes,
-        &mut marks,
-        &mut levels,
-        &mut origins,
-        &mut heap,
-        &mut joins,
-        lent,
-    )
-}
-
-// A survey of classes with tables and slices of these lengths, which are 12 at most for scratch.
-pub(crate) fn survey_classes<S: Sheet<Mark = Class>>(
-    cuts: &CutList,
-    source: &S,
-    tile: usize,
-    mouths: &mut [MouthRecord<Class>],
-    passes: &mut [PassRecord<Class>],
-    lent: Lent,
-) -> Result<usize, Refusal> {
-    let void = Class::void();
-    let mut marks = [void; 12];
-    let mut levels = [None; 12];
-    let mut origins = [None; 12];
-    let mut heap = [Entry {
-        level: void,
-        node: 0,
-        origin: 0,
-    }; 12];
-    let mut joins = [0; 12];
-    survey_part(
-        cuts,
-        source,
-        tile,
-        mouths,
-        passes,
-        &mut marks,
-        &mut levels,
-        &mut origins,
-        &mut heap,
-        &mut joins,
-        lent,
-    )
 }

@@ -1,5 +1,5 @@
 // What any survey must leave, worked out by hand. Which tree of passes it finds is free: its levels are not.
-use crate::lent::{Lent, survey_classes, survey_heights};
+use crate::lent::{Lent, survey};
 use marks::{Class, Height, Mark, Refusal};
 use sheets::{Packed, Raster};
 use std::process::Abort;
@@ -9,10 +9,7 @@ use tiles::CutList;
 
 // Decimetres as a height, which the tests write only where they are one.
 fn height(dm: i16) -> Result<Height, Fail> {
-    match Height::new(dm) {
-        Some(height) => Ok(height),
-        None => Err(Fail::new("no height")),
-    }
+    Ok(Height::new(dm).ok_or("no height")?)
 }
 
 // A table of mouths that no survey has written.
@@ -59,25 +56,18 @@ fn unlinked(rt: &impl Abort, passes: &[PassRecord<Height>]) {
 
 // How many passes have this level.
 fn at_level(passes: &[PassRecord<Height>], dm: i16) -> usize {
-    let mut count: usize = 0;
-    for pass in passes {
-        if pass.level.decimetres() == Some(dm) {
-            count = count.saturating_add(1);
-        }
-    }
-    count
+    passes
+        .iter()
+        .filter(|pass| pass.level.decimetres() == Some(dm))
+        .count()
 }
 
 // Some pass at this level joins these two mouths, in either direction.
 fn joins(passes: &[PassRecord<Height>], dm: i16, a: usize, b: usize) -> bool {
-    for pass in passes {
-        if pass.level.decimetres() == Some(dm)
+    passes.iter().any(|pass| {
+        pass.level.decimetres() == Some(dm)
             && (pass.from == a && pass.to == b || pass.from == b && pass.to == a)
-        {
-            return true;
-        }
-    }
-    false
+    })
 }
 
 // Of a sheet of 4 rows and 6 columns, cut at column 3:
@@ -107,7 +97,8 @@ fn the_right_tile(rt: HostRuntime) -> Result<(), Fail> {
     let mut mouths = blank_mouths();
     let mut passes = blank_passes();
     assert_eq!(rt;
-        survey_heights(
+        survey(
+            rt.alloc(),
             &cuts,
             &source,
             1,
@@ -137,7 +128,8 @@ fn the_left_tile(rt: HostRuntime) -> Result<(), Fail> {
     let mut mouths = blank_mouths();
     let mut passes = blank_passes();
     assert_eq!(rt;
-        survey_heights(
+        survey(
+            rt.alloc(),
             &cuts,
             &source,
             0,
@@ -163,7 +155,15 @@ fn lines(rt: HostRuntime) -> Result<(), Fail> {
     let mut mouths = blank_mouths();
     let mut passes = blank_passes();
     assert_eq!(rt;
-        survey_heights(&cuts, &source, 0, &mut mouths, &mut passes, Lent::of(3, 3)),
+        survey(
+            rt.alloc(),
+            &cuts,
+            &source,
+            0,
+            &mut mouths,
+            &mut passes,
+            Lent::of(3, 3)
+        ),
         Ok(2)
     );
     marked(&rt, &mouths[0..3], &[5, 1, 4])?;
@@ -180,14 +180,30 @@ fn columns(rt: HostRuntime) -> Result<(), Fail> {
     let mut mouths = blank_mouths();
     let mut passes = blank_passes();
     assert_eq!(rt;
-        survey_heights(&cuts, &source, 1, &mut mouths, &mut passes, Lent::of(1, 1)),
+        survey(
+            rt.alloc(),
+            &cuts,
+            &source,
+            1,
+            &mut mouths,
+            &mut passes,
+            Lent::of(1, 1)
+        ),
         Ok(0)
     );
     blank(&rt, &mouths[0..2]);
     marked(&rt, &mouths[2..3], &[3])?;
     unlinked(&rt, &passes);
     assert_eq!(rt;
-        survey_heights(&cuts, &source, 0, &mut mouths, &mut passes, Lent::of(2, 2)),
+        survey(
+            rt.alloc(),
+            &cuts,
+            &source,
+            0,
+            &mut mouths,
+            &mut passes,
+            Lent::of(2, 2)
+        ),
         Ok(1)
     );
     marked(&rt, &mouths[0..3], &[2, 7, 3])?;
@@ -208,15 +224,32 @@ fn refused_in_order(rt: HostRuntime) -> Result<(), Fail> {
     let none = Lent::of(0, 0);
     let few = Lent { mouths: 17, ..none };
     assert_eq!(rt;
-        survey_heights(&other, &source, 2, &mut mouths, &mut passes, few),
+        survey(
+            rt.alloc(),
+            &other,
+            &source,
+            2,
+            &mut mouths,
+            &mut passes,
+            few
+        ),
         Err(Refusal::NoSuchTile)
     );
     assert_eq!(rt;
-        survey_heights(&other, &source, 1, &mut mouths, &mut passes, few),
+        survey(
+            rt.alloc(),
+            &other,
+            &source,
+            1,
+            &mut mouths,
+            &mut passes,
+            few
+        ),
         Err(Refusal::WrongLength)
     );
     assert_eq!(rt;
-        survey_heights(
+        survey(
+            rt.alloc(),
             &cuts,
             &source,
             1,
@@ -227,7 +260,8 @@ fn refused_in_order(rt: HostRuntime) -> Result<(), Fail> {
         Err(Refusal::WrongLength)
     );
     assert_eq!(rt;
-        survey_heights(
+        survey(
+            rt.alloc(),
             &other,
             &source,
             1,
@@ -242,7 +276,8 @@ fn refused_in_order(rt: HostRuntime) -> Result<(), Fail> {
         Err(Refusal::Outside)
     );
     assert_eq!(rt;
-        survey_heights(
+        survey(
+            rt.alloc(),
             &cuts,
             &source,
             1,
@@ -253,7 +288,15 @@ fn refused_in_order(rt: HostRuntime) -> Result<(), Fail> {
         Err(Refusal::ScratchShort)
     );
     assert_eq!(rt;
-        survey_heights(&cuts, &source, 1, &mut mouths, &mut passes, Lent::of(12, 9)),
+        survey(
+            rt.alloc(),
+            &cuts,
+            &source,
+            1,
+            &mut mouths,
+            &mut passes,
+            Lent::of(12, 9)
+        ),
         Err(Refusal::ScratchShort)
     );
     blank(&rt, &mouths);
@@ -273,28 +316,61 @@ fn short_scratch(rt: HostRuntime) -> Result<(), Fail> {
     let short = Err(Refusal::ScratchShort);
     let lent = Lent { marks: 2, ..full };
     assert_eq!(rt;
-        survey_heights(&cuts, &source, 0, &mut mouths, &mut passes, lent),
+        survey(
+            rt.alloc(),
+            &cuts,
+            &source,
+            0,
+            &mut mouths,
+            &mut passes,
+            lent
+        ),
         short
     );
     let lent = Lent { levels: 2, ..full };
     assert_eq!(rt;
-        survey_heights(&cuts, &source, 0, &mut mouths, &mut passes, lent),
+        survey(
+            rt.alloc(),
+            &cuts,
+            &source,
+            0,
+            &mut mouths,
+            &mut passes,
+            lent
+        ),
         short
     );
     let lent = Lent { origins: 2, ..full };
     assert_eq!(rt;
-        survey_heights(&cuts, &source, 0, &mut mouths, &mut passes, lent),
+        survey(
+            rt.alloc(),
+            &cuts,
+            &source,
+            0,
+            &mut mouths,
+            &mut passes,
+            lent
+        ),
         short
     );
     let lent = Lent { heap: 2, ..full };
     assert_eq!(rt;
-        survey_heights(&cuts, &source, 0, &mut mouths, &mut passes, lent),
+        survey(
+            rt.alloc(),
+            &cuts,
+            &source,
+            0,
+            &mut mouths,
+            &mut passes,
+            lent
+        ),
         short
     );
     blank(&rt, &mouths);
     unlinked(&rt, &passes);
     assert_eq!(rt;
-        survey_heights(
+        survey(
+            rt.alloc(),
             &cuts,
             &source,
             0,
@@ -321,7 +397,15 @@ fn packed_and_dead(rt: HostRuntime) -> Result<(), Fail> {
     let mut dead = [0, 2, 0, 6, 0, 7];
     let source = Packed::new(1, 3, &kind, &mut dead)?;
     assert_eq!(rt;
-        survey_classes(&cuts, &source, 0, &mut mouths, &mut passes, Lent::of(3, 3)),
+        survey(
+            rt.alloc(),
+            &cuts,
+            &source,
+            0,
+            &mut mouths,
+            &mut passes,
+            Lent::of(3, 3)
+        ),
         Err(Refusal::DeadCell)
     );
     assert_eq!(rt; mouths[0].sill, Some(Class::Void));
@@ -329,7 +413,15 @@ fn packed_and_dead(rt: HostRuntime) -> Result<(), Fail> {
     let mut bytes = [0, 2, 0, 6, 0, 1];
     let source = Packed::new(1, 3, &kind, &mut bytes)?;
     assert_eq!(rt;
-        survey_classes(&cuts, &source, 0, &mut mouths, &mut passes, Lent::of(3, 3)),
+        survey(
+            rt.alloc(),
+            &cuts,
+            &source,
+            0,
+            &mut mouths,
+            &mut passes,
+            Lent::of(3, 3)
+        ),
         Ok(2)
     );
     assert_eq!(rt; mouths[0].mark, Class::Strip);

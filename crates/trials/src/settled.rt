@@ -39,53 +39,33 @@ const PASSES: [(usize, usize, i16); 18] = [
 
 // The height of so many decimetres.
 fn height(dm: i16) -> Height {
-    match Height::new(dm) {
-        Some(height) => height,
-        None => Height::void(),
-    }
+    Height::new(dm).unwrap_or(Height::void())
 }
 
 // The sheet, cut at column 3.
-fn cuts() -> Result<CutList, Fail> {
-    Ok(CutList::new(4, &[], 6, &[3])?)
+fn cuts() -> Result<CutList, Refusal> {
+    CutList::new(4, &[], 6, &[3])
 }
 
 // The table of mouths.
 fn mouths() -> [MouthRecord<Height>; 20] {
-    let mut all = [MouthRecord {
-        mark: Height::void(),
+    MARKS.map(|dm| MouthRecord {
+        mark: height(dm),
         sill: None,
-    }; 20];
-    for k in 0..20 {
-        all[k] = MouthRecord {
-            mark: height(MARKS[k]),
-            sill: None,
-        };
-    }
-    all
+    })
 }
 
 // The table of passes.
 fn passes() -> [PassRecord<Height>; 18] {
-    let mut all = [PassRecord {
-        from: 0,
-        to: 0,
-        level: Height::void(),
-    }; 18];
-    for k in 0..18 {
-        let (from, to, level) = PASSES[k];
-        all[k] = PassRecord {
-            from,
-            to,
-            level: height(level),
-        };
-    }
-    all
+    PASSES.map(|(from, to, dm)| PassRecord {
+        from,
+        to,
+        level: height(dm),
+    })
 }
 
 // The table of mouths after settling, with so many passes and so many levels lent.
 fn settled(passes_lent: usize, levels_lent: usize) -> Result<[MouthRecord<Height>; 20], Refusal> {
-    let list = CutList::new(4, &[], 6, &[3])?;
     let mut mouths = mouths();
     let passes = passes();
     let mut levels = [None; 20];
@@ -98,7 +78,7 @@ fn settled(passes_lent: usize, levels_lent: usize) -> Result<[MouthRecord<Height
     let passes_end = passes_lent.min(18);
     let levels_end = levels_lent.min(20);
     settle_mouths(
-        &list,
+        &cuts()?,
         &mut mouths,
         &passes[0..passes_end],
         &mut levels[0..levels_end],
@@ -108,12 +88,10 @@ fn settled(passes_lent: usize, levels_lent: usize) -> Result<[MouthRecord<Height
     Ok(mouths)
 }
 
-// The number of the refusal, and 0 if settling is accepted.
-fn refusal(passes_lent: usize, levels_lent: usize) -> u8 {
-    match settled(passes_lent, levels_lent) {
-        Ok(_) => 0,
-        Err(refusal) => refusal.number(),
-    }
+// The number of the refusal; none if settling is accepted.
+fn refusal(passes_lent: usize, levels_lent: usize) -> Option<u8> {
+    let refusal = settled(passes_lent, levels_lent).err()?;
+    Some(refusal.number())
 }
 
 // Both mouths of the left hollow run off over the 7. Were a higher crossing kept for a lower one they would have 8, and
@@ -130,10 +108,10 @@ fn hollows_run_off(rt: HostRuntime) -> Result<(), Fail> {
 
 #[test]
 fn exact_and_one_less(rt: HostRuntime) {
-    assert_eq!(rt; refusal(18, 20), 0);
-    assert_eq!(rt; refusal(17, 20), 4);
-    assert_eq!(rt; refusal(18, 19), 5);
-    assert_eq!(rt; refusal(17, 19), 4);
+    assert_eq!(rt; refusal(18, 20), None);
+    assert_eq!(rt; refusal(17, 20), Some(4));
+    assert_eq!(rt; refusal(18, 19), Some(5));
+    assert_eq!(rt; refusal(17, 19), Some(4));
 }
 
 // A new round takes surveys of its two tiles and nothing else.
@@ -146,11 +124,7 @@ fn an_open_round(rt: HostRuntime) -> Result<(), Fail> {
     assert_eq!(rt; round.decide(Call::Survey(2)), Err(Refusal::NoSuchTile));
     assert_eq!(rt; round.decide(Call::Settle), Err(Refusal::TilesMissing));
     assert_eq!(rt; round.decide(Call::Finish(0)), Err(Refusal::RoundOpen));
-    match Round::new(cuts()?, &mouths[0..19], &passes) {
-        Ok(_) => Err(Fail::new("accepted")),
-        Err(refusal) => {
-            assert_eq!(rt; refusal, Refusal::WrongLength);
-            Ok(())
-        },
-    }
+    let few = Round::new(cuts()?, &mouths[0..19], &passes);
+    assert_eq!(rt; few.err(), Some(Refusal::WrongLength));
+    Ok(())
 }

@@ -42,35 +42,6 @@ module _ {M : Type 0} (r : Round) (m q : ℕ) (s : Scratch M) where
       let later : List (Bool × ℕ) = (short (mouths (plan_of r.cuts)) s.levels.now s.origins.now s.heap.now, 5) ∷ [] in
       not_refused n p (tt {0}) (past (short (mouths (plan_of r.cuts)) s.levels.now s.origins.now s.heap.now) 5 [] tt (refused n p) long (past (tables_short (plan_of r.cuts) m q) 4 later tt (refused n p) (sym f) e))
 
-pub returns-in_err-decide : goal.returns-in_err-decide
-returns-in_err-decide g c =
-    let p = err_from_is_err_and c.from_residual.result c.from_residual.ensures.1 in
-    rw (p.1, p.2) (record {
-      told = by_state c.args.self.now (length c.args.mouths.now) (length c.args.passes.now) c.args.scratch.now _ _ c.in_err-decide.ensures;
-      leaves = (refl, refl);
-      sills = tt;
-      scratch = λ _. refl;
-      loans = record { marks = refl; levels = refl; origins = refl; heap = refl };
-    })
-
-pub returns-then-tables_short : goal.returns-then-tables_short
-returns-then-tables_short g c = record {
-  told = by_tables c.args.self.now (length c.args.mouths.now) (length c.args.passes.now) c.args.scratch.now c.in_ok-decide.ensures c.if-tables_short.ensures;
-  leaves = (refl, refl);
-  sills = tt;
-  scratch = λ _. refl;
-  loans = record { marks = refl; levels = refl; origins = refl; heap = refl };
-}
-
-pub returns-then-is_short : goal.returns-then-is_short
-returns-then-is_short g c = record {
-  told = by_scratch c.args.self.now (length c.args.mouths.now) (length c.args.passes.now) c.args.scratch.now c.in_ok-decide.ensures c.if-tables_short.ensures c.mouths.result c.mouths.ensures.value c.if-is_short.ensures;
-  leaves = (refl, refl);
-  sills = tt;
-  scratch = λ _. refl;
-  loans = record { marks = refl; levels = refl; origins = refl; heap = refl };
-}
-
 pub returns-in_err-settle_mouths : goal.returns-in_err-settle_mouths
 returns-in_err-settle_mouths g c =
     absurd (never c.args.self.now (length c.args.mouths.now) (length c.args.passes.now) c.args.scratch.now _ _ c.mouths.result c.if-tables_short.ensures c.mouths.ensures.value c.if-is_short.ensures c.in_err-settle_mouths.ensures.told)

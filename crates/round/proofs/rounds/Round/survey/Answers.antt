@@ -61,17 +61,6 @@ returns-in_err-decide g c =
       loans = record { marks = refl; levels = refl; origins = refl; heap = refl; joins = refl };
     })
 
-pub returns-in_err-count : goal.returns-in_err-count
-returns-in_err-count g c =
-    let p = err_from_is_err_and c.from_residual-in_err-count.result c.from_residual-in_err-count.ensures.1 in
-    let e = c.in_err-count.ensures in
-    rw (p.1, p.2) (record {
-      told = by_tile c.args.self.now (g.S.Sheet.meaning c.args.source.now) c.args.tile (length c.args.mouths.now) (length c.args.passes.now) c.args.scratch.now _ c.in_ok-decide.ensures e.told;
-      leaves = (refl, e.leaves);
-      scratch = e.scratch;
-      loans = e.loans;
-    })
-
 pub bounds-self-tile : goal.bounds-self-tile
 bounds-self-tile g c = flagged c.args.self.now (g.S.Sheet.meaning c.args.source.now) c.args.tile (length c.args.mouths.now) (length c.args.passes.now) c.args.scratch.now c.in_ok-decide.ensures
 
