@@ -24,15 +24,13 @@ const MOST_CELLS: usize = 4_096;
 fn check_cuts(input: &Input) -> Result<(), Refusal>
     ensures { told result ≡ checked (cut_checks input.now.rows (cuts_of input.now.down) input.now.cols (cuts_of input.now.across)) tt }
 {
-    match CutList::new(
+    CutList::new(
         input.rows,
         input.down.as_slice(),
         input.cols,
         input.across.as_slice(),
-    ) {
-        Ok(_) => Ok(()),
-        Err(refusal) => Err(refusal),
-    }
+    )?;
+    Ok(())
 }
 
 // The answer to an input of a kind.

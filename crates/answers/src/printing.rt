@@ -10,17 +10,6 @@ use marks::{CodedMark, Refusal};
 use sheets::Sheet;
 use std::alloc::Global;
 
-// As many copies of a value.
-pub(crate) fn copies<T: Copy>(heap: Global, value: T, n: usize) -> Result<Vec<T>, Refusal>
-    ensures { MatchResult result (λ v. vec_len v ≡ n) (λ e. e ≡ NoMemory) }
-{
-    let mut all = Vec::new(heap);
-    for k in 0..n {
-        all.push(value)?;
-    }
-    Ok(all)
-}
-
 // Appends the line that says how many cells rose.
 pub(crate) fn append_raised(heap: Global, text: &mut Vec<u8>, n: usize) -> Result<(), Refusal>
     ensures { MatchResult result (λ _. text.new.items ≡ text.old.items ++ raised_line n) (λ e. e ≡ NoMemory) }
@@ -41,7 +30,7 @@ pub(crate) fn sheet_text<M: CodedMark, S: Sheet<Mark = M>>(
     ensures { MatchResult result (λ v. v.items ≡ text_of M.Spelled.named M.Spelled.spelled (S.Sheet.meaning sheet.now)) (λ e. e ≡ NoMemory) }
 {
     let len = text_length(sheet, row)?;
-    let mut text = copies(heap, b' ', len)?;
+    let mut text = vec![in heap; b' '; len]?;
     write_text(sheet, row, text.as_mut_slice())?;
     Ok(text)
 }

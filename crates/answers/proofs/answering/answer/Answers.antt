@@ -15,9 +15,3 @@ returns-in-Err-read_input c =
     no_input (omega arith) h.0 k.0 c.max.result
     (subst (LongestShared (either H K) bs) (sym c.max.ensures) (either_longest H K bs c.in-Err.first c.in-Err-read_input.second h.1 k.1))
     refl
-
-pub returns-in-Ok : goal.returns-in-Ok
-returns-in-Ok c = ⊎_elim (λ e. no_memory e) (λ a. of_heights (omega arith) a) c.answer_input.ensures
-
-pub returns-in-Ok-read_input : goal.returns-in-Ok-read_input
-returns-in-Ok-read_input c = ⊎_elim (λ e. no_memory e) (λ a. of_classes (omega arith) a) c.answer_input-in-Ok-read_input.ensures

@@ -14,20 +14,6 @@ use Rattle.answers.proofs.answering.answer_input.Goals as goal
 laws : (g : given.Over) → Spelling g.M.Spelled.spelled
 laws g = let m = g.met.M.CodedMark in record { one = g.M.Mark.lowest; distinct = m.distinct; clear = m.clear }
 
-pub slice_bounds-new-end : goal.slice_bounds-new-end
-slice_bounds-new-end g c =
-    let h = end_within g.M.Spelled.named g.M.Spelled.spelled c.args.bytes.now c.requires.0 _ _ c.requires.1 c.args.input.end c.requires.4 in
-    search rules
-
-pub returns-in_err-source : goal.returns-in_err-source
-returns-in_err-source g c =
-    let p = err_from_is_err_and c.from_residual-in_err-source.result c.from_residual-in_err-source.ensures.1 in
-    rw (p.1, p.2)
-    (⊎_elim
-    (λ k. inl (λ i. refused (k.0 i) (k.1 i)))
-    (λ k. absurd (k.1 (c.requires.0, is_text g.M.Spelled.named g.M.Spelled.spelled c.args.bytes.now c.requires.0 _ _ c.requires.1 c.args.input.end c.requires.4)))
-    c.in_err-source.ensures)
-
 pub print_sheet-requires : goal.print_sheet-requires
 print_sheet-requires g c =
     let s = c.in_ok-source.source in

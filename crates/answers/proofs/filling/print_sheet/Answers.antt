@@ -1,19 +1,51 @@
-use Rattle.std.proofs.Common.{◌≡◌, ◌*◌, ◌∙◌, arith}
+use Rattle.std.proofs.Common.{◌≡◌, ◌*◌, length, vec_items, sym, ◌∙◌, subst, arith}
+use Rattle.sheets.specs.Grids.{Side}
+use Rattle.sheets.specs.Layouts.{flat}
 use Rattle.terrain.specs.Fills.{size}
+use Rattle.terrain.specs.Terrains.{kind_of}
+use Rattle.answers.specs.Printed.{coded_of}
+use Rattle.answers.proofs.Outcome.{is_made, flat_live, is_filled, is_printed}
+use Rattle.answers.proofs.Whole.{enough}
 use Rattle.answers.proofs.filling.print_sheet.Goals as goal
 
-pub print_with-requires : goal.print_with-requires
-print_with-requires g c =
-    let m = g.S.Sheet.meaning c.args.source.now in
+pub returns-in_err-target : goal.returns-in_err-target
+returns-in_err-target g c =
+    let sided = g.S.Sheet.sided c.args.source.now in
     let s = c.sides-rows.ensures in
-    let all : c.sides-rows.result.0 * c.sides-rows.result.1 ≡ size m = (λ i. s.rows i * s.cols i) in
-    let row = c.as_mut_slice-6.ensures.len ∙ c.in_ok-row.ensures ∙ s.cols in
-    record {
-      live = c.requires;
-      cells = c.as_mut_slice.ensures.len ∙ c.in_ok-cells.ensures ∙ all;
-      marks = (let e = c.as_mut_slice-2.ensures.len ∙ c.in_ok-marks.ensures ∙ all in omega (arith, e));
-      levels = (let e = c.as_mut_slice-3.ensures.len ∙ c.in_ok-levels.ensures ∙ all in omega (arith, e));
-      origins = (let e = c.as_mut_slice-4.ensures.len ∙ c.in_ok-origins.ensures ∙ all in omega (arith, e));
-      entries = (let e = c.as_mut_slice-5.ensures.len ∙ c.in_ok-entries.ensures ∙ all in omega (arith, e));
-      row = omega (arith, row);
-    }
+    let want : length c.as_mut_slice.result.now ≡ c.sides-rows.result.0 * c.sides-rows.result.1 = c.as_mut_slice.ensures.len ∙ c.in_ok-cells.ensures.len in
+    absurd (is_made c.sides-rows.result.0 c.sides-rows.result.1 (length c.as_mut_slice.result.now) (c.sides-rows.result.0 * c.sides-rows.result.1) (tt {0}) (subst Side (sym s.rows) sided.rows) (subst Side (sym s.cols) sided.cols) want _ _ c.in_err-target.ensures.told)
+
+pub returns-in_err-raised : goal.returns-in_err-raised
+returns-in_err-raised g c =
+    let src = g.S.Sheet.meaning c.args.source.now in
+    let s = c.sides-rows.ensures in
+    let t = c.in_ok-target.target in
+    let m = c.in_ok-target.ensures.made in
+    let all : c.sides-rows.result.0 * c.sides-rows.result.1 ≡ size src = (λ i. s.rows i * s.cols i) in
+    let told = enough (kind_of g.M.Order g.M.Mark.lowest) src (flat t.rows t.cols t.cells.now) _ (record { marks = c.as_mut_slice-2.result; levels = c.as_mut_slice-3.result; origins = c.as_mut_slice-4.result; heap = c.as_mut_slice-5.result }) _
+    (omega (arith, c.as_mut_slice-2.ensures.len ∙ c.in_ok-marks.ensures.len ∙ all))
+    (omega (arith, c.as_mut_slice-3.ensures.len ∙ c.in_ok-levels.ensures.len ∙ all))
+    (omega (arith, c.as_mut_slice-4.ensures.len ∙ c.in_ok-origins.ensures.len ∙ all))
+    (omega (arith, c.as_mut_slice-5.ensures.len ∙ c.in_ok-entries.ensures.len ∙ all))
+    c.in_err-raised.ensures.told in
+    absurd (is_filled src (flat t.rows t.cols t.cells.now) (m.0 ∙ s.rows) (m.1 ∙ s.cols) c.requires _ _ _ told)
+
+pub sheet_text-requires-clause-live : goal.sheet_text-requires-clause-live
+sheet_text-requires-clause-live g c = let t = c.fill_sheet.new.target in flat_live t.rows t.cols t.cells.now t.long
+
+pub returns : goal.returns
+returns g c =
+    let src = g.S.Sheet.meaning c.args.source.now in
+    let s = c.sides-rows.ensures in
+    let a = c.in_ok-target.target in
+    let m = c.in_ok-target.ensures.made in
+    let t = c.fill_sheet.new.target in
+    let f = c.in_ok-raised.ensures in
+    let all : c.sides-rows.result.0 * c.sides-rows.result.1 ≡ size src = (λ i. s.rows i * s.cols i) in
+    let told = enough (kind_of g.M.Order g.M.Mark.lowest) src (flat a.rows a.cols a.cells.now) _ (record { marks = c.as_mut_slice-2.result; levels = c.as_mut_slice-3.result; origins = c.as_mut_slice-4.result; heap = c.as_mut_slice-5.result }) _
+    (omega (arith, c.as_mut_slice-2.ensures.len ∙ c.in_ok-marks.ensures.len ∙ all))
+    (omega (arith, c.as_mut_slice-3.ensures.len ∙ c.in_ok-levels.ensures.len ∙ all))
+    (omega (arith, c.as_mut_slice-4.ensures.len ∙ c.in_ok-origins.ensures.len ∙ all))
+    (omega (arith, c.as_mut_slice-5.ensures.len ∙ c.in_ok-entries.ensures.len ∙ all))
+    f.told in
+    is_printed src (flat a.rows a.cols a.cells.now) (m.0 ∙ s.rows) (m.1 ∙ s.cols) c.requires (coded_of g.M.Order g.M.Mark.lowest g.M.Spelled) (flat t.rows t.cols t.cells.now) c.in_ok-raised.raised (vec_items c.in_ok-text.text) (vec_items c.append_raised.new.text) told f.leaves c.in_ok-text.ensures c.in_ok-append_raised.ensures
