@@ -178,15 +178,6 @@ fn small_sheets(rt: HostRuntime) -> Result<(), Fail> {
     )
 }
 
-// As many blanks.
-fn blanks(heap: Global, n: usize) -> Result<Vec<u8>, Fail> {
-    let mut all = Vec::new(heap);
-    for _ in 0..n {
-        all.push(b' ')?;
-    }
-    Ok(all)
-}
-
 // An uncut sheet of open ground: its heading, and so many rows and columns.
 fn open_ground(heap: Global, heading: &str, rows: usize, cols: usize) -> Result<Vec<u8>, Fail> {
     let mut text = Vec::new(heap);
@@ -206,8 +197,8 @@ fn open_ground(heap: Global, heading: &str, rows: usize, cols: usize) -> Result<
 #[test]
 fn refuses_size(rt: HostRuntime) -> Result<(), Fail> {
     let heap = rt.alloc();
-    refused_bytes(&rt, heap, blanks(heap, 60_000)?.as_slice(), 8, 0)?;
-    refused_bytes(&rt, heap, blanks(heap, 60_001)?.as_slice(), 1, 0)?;
+    refused_bytes(&rt, heap, vec![in heap; b' '; 60_000]?.as_slice(), 8, 0)?;
+    refused_bytes(&rt, heap, vec![in heap; b' '; 60_001]?.as_slice(), 1, 0)?;
     let most = open_ground(heap, "(sheet class 2 2048\n", 2, 2048)?;
     refused_bytes(&rt, heap, most.as_slice(), 2, 0)?;
     let more = open_ground(heap, "(sheet class 3 1366\n", 3, 1366)?;

@@ -13,10 +13,7 @@ fn text_of<M: CodedMark, S: Sheet<Mark = M>>(
     less: usize,
 ) -> Result<Vec<u8>, Refusal> {
     let len = text_length(sheet, row)?;
-    let mut text = Vec::new(heap);
-    for _ in 0..len.saturating_sub(less) {
-        text.push(b'#')?;
-    }
+    let mut text = vec![in heap; b'#'; len.saturating_sub(less)]?;
     write_text(sheet, row, text.as_mut_slice())?;
     Ok(text)
 }
@@ -56,12 +53,10 @@ fn read_run<M: CodedMark>(
     sheet.read(row, col, run)
 }
 
-// The number of a refusal, or 0.
-fn number_of<T: Drop>(r: Result<T, Refusal>) -> u8 {
-    match r {
-        Ok(_) => 0,
-        Err(refusal) => refusal.number(),
-    }
+// The number of a refusal, if there is one.
+fn number_of<T: Drop>(r: Result<T, Refusal>) -> Option<u8> {
+    let refusal = r.err()?;
+    Some(refusal.number())
 }
 
 #[test]
@@ -106,10 +101,10 @@ fn refusals(rt: HostRuntime) {
     let text = b"(sheet class 1 4\n(row o s m w)\n)\n";
     let small = b"(sheet class 1 3\n(row o s m)\n)\n";
     let mut run = [Class::Open; 3];
-    assert_eq!(rt; number_of(read_run(heap, text, 0, 1, &mut run)), 0);
-    assert_eq!(rt; number_of(read_run(heap, text, 0, 2, &mut run)), 6);
-    assert_eq!(rt; number_of(read_run(heap, text, 1, 0, &mut run)), 6);
-    assert_eq!(rt; number_of(rewritten(heap, text, &mut run, 0)), 5);
-    assert_eq!(rt; number_of(rewritten(heap, small, &mut run, 0)), 0);
-    assert_eq!(rt; number_of(rewritten(heap, small, &mut run, 1)), 9);
+    assert_eq!(rt; number_of(read_run(heap, text, 0, 1, &mut run)), None);
+    assert_eq!(rt; number_of(read_run(heap, text, 0, 2, &mut run)), Some(6));
+    assert_eq!(rt; number_of(read_run(heap, text, 1, 0, &mut run)), Some(6));
+    assert_eq!(rt; number_of(rewritten(heap, text, &mut run, 0)), Some(5));
+    assert_eq!(rt; number_of(rewritten(heap, small, &mut run, 0)), None);
+    assert_eq!(rt; number_of(rewritten(heap, small, &mut run, 1)), Some(9));
 }
