@@ -9,15 +9,10 @@ use Rattle.sheets.proofs.Starts.{started}
 use Rattle.sheets.proofs.packed.PackedSheet.read.Goals as goal
 use Rattle.sheets.proofs.packed.PackedSheet.read.Goals.{in-Some, in_default}
 
-pub readable-requires : goal.readable-requires
-readable-requires g c =
-    let s = c.args.self.now in
-    (started s.rows s.cols c.args.row c.args.col (length c.args.out.now) _ c.in_ok-from.ensures).ends
-
 pub returns-then-not-readable : goal.returns-then-not-readable
 returns-then-not-readable g c =
     let s = c.args.self.now in
-    let t = started s.rows s.cols c.args.row c.args.col (length c.args.out.now) _ c.in_ok-from.ensures in
+    let t = started c.sides.result s.rows s.cols c.args.row c.args.col (length c.args.out.now) _ c.sides.ensures.rows c.sides.ensures.cols c.in_ok-from.ensures in
     let d = when_false _ _ c.if-not-readable.true c.readable.ensures in
     record {
       told = passes _ _ (_ ∷ []) _ _ t.inside (fails _ _ [] _ (codes_broken g.M.CodedMark.decoded s.rows s.cols s.bytes.now c.args.row c.args.col _ (length c.args.out.now) t.is d.0 d.1 d.2));
@@ -30,7 +25,7 @@ loop-k-init g c = λ k h. absurd (omega arith)
 pub mark_at-requires : goal.mark_at-requires
 mark_at-requires g c =
     let s = c.args.self.now in
-    let t = started s.rows s.cols c.args.row c.args.col (length c.args.out.now) _ c.in_ok-from.ensures in
+    let t = started c.sides.result s.rows s.cols c.args.row c.args.col (length c.args.out.now) _ c.sides.ensures.rows c.sides.ensures.cols c.in_ok-from.ensures in
     omega (arith, t.ends)
 
 pub loop-k-preserved : goal.loop-k-preserved
@@ -49,7 +44,7 @@ loop-k-preserved g c =
 pub returns : goal.returns
 returns g c =
     let s = c.args.self.now in
-    let t = started s.rows s.cols c.args.row c.args.col (length c.args.out.now) _ c.in_ok-from.ensures in
+    let t = started c.sides.result s.rows s.cols c.args.row c.args.col (length c.args.out.now) _ c.sides.ensures.rows c.sides.ensures.cols c.in_ok-from.ensures in
     let live = when_true _ _ c.if-not-readable.false c.readable.ensures in
     record {
       told = passes _ _ (_ ∷ []) _ _ t.inside (passes _ _ [] _ _ (codes_unbroken g.M.CodedMark.decoded s.rows s.cols s.bytes.now c.args.row c.args.col _ (length c.args.out.now) t.is live) refl);

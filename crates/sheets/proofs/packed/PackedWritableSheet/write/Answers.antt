@@ -7,14 +7,14 @@ use Rattle.sheets.proofs.packed.PackedWritableSheet.write.Goals as goal
 pub put-requires : goal.put-requires
 put-requires g c =
     let s = c.args.self.now in
-    let t = started s.rows s.cols c.args.row c.args.col (length c.args.marks.now) _ c.in_ok-from.ensures in
+    let t = started c.sides.result s.rows s.cols c.args.row c.args.col (length c.args.marks.now) _ c.sides.ensures.rows c.sides.ensures.cols c.in_ok-from.ensures in
     let i = c.loop-k.invariant in
     rw (i.0, i.1) (omega (arith, t.ends))
 
 pub loop-k-preserved : goal.loop-k-preserved
 loop-k-preserved g c =
     let s = c.args.self.now in
-    let t = started s.rows s.cols c.args.row c.args.col (length c.args.marks.now) _ c.in_ok-from.ensures in
+    let t = started c.sides.result s.rows s.cols c.args.row c.args.col (length c.args.marks.now) _ c.sides.ensures.rows c.sides.ensures.cols c.in_ok-from.ensures in
     let p = c.put.ensures in (
       p.rows ∙ c.loop-k.invariant.0,
       p.cols ∙ c.loop-k.invariant.1,
@@ -25,7 +25,7 @@ loop-k-preserved g c =
 pub returns : goal.returns
 returns g c =
     let s = c.args.self.now in
-    let t = started s.rows s.cols c.args.row c.args.col (length c.args.marks.now) _ c.in_ok-from.ensures in
+    let t = started c.sides.result s.rows s.cols c.args.row c.args.col (length c.args.marks.now) _ c.sides.ensures.rows c.sides.ensures.cols c.in_ok-from.ensures in
     let all : c.loop-k.k ≡ length c.args.marks.now = omega arith in
     record {
       loans = ap (λ n. n ∷ []) c.loop-k.invariant.3;
