@@ -1,5 +1,5 @@
 -- Codes of two bytes in a list of bytes. Assumes nothing.
-use Rattle.std.proofs.Common.{◌≡◌, ℕ, ◌+◌, ◌*◌, ◌/◌, ◌%◌, ◌<◌, ◌≤◌, Bool, true, false, ◌≢◌, List, length, get_or, set, Some, Option, MatchBool, sym, refl, ap, ◌∙◌, subst, arith, below_more}
+use Rattle.std.proofs.Common.{◌≡◌, ℕ, ◌+◌, ◌*◌, ◌/◌, ◌%◌, ◌<◌, ◌≤◌, Bool, true, false, ◌≢◌, List, length, get_or, set, Some, Option, MatchBool, sym, ap, ◌∙◌, subst, arith, below_more}
 use Rattle.std.specs.List.{range_with_len, AllWithin, HoldsAt}
 use Rattle.std.proofs.lemmas.List.FromFn.{length-range_with_len, get_or-range_with_len}
 use Rattle.std.proofs.lemmas.Nat.{div-add-mod'}
@@ -42,9 +42,6 @@ pub record Packing {M : Type 0} (coded : M → ℕ) (before after : List ℕ) (y
   pub long : length after ≡ length before
   pub run : (k : ℕ) → k < n → (y : M) → at ys k ≡ mark y → code_at after (from + k) ≡ coded y
   pub rest : (i : ℕ) → (from ≤ i → i < from + n → ⊥) → code_at after i ≡ code_at before i
-
-pub packing_none : {M : Type 0} (coded : M → ℕ) (bs : List ℕ) (ys : List M) (from : ℕ) → Packing coded bs bs ys from 0
-packing_none coded bs ys from = record { long = refl; run = λ k h. absurd (omega arith); rest = λ i h. refl }
 
 module _ {M : Type 0} (coded : M → ℕ) (bs cs ds : List ℕ) (ys : List M) (from n : ℕ) (y : M) where
   pub packing_more : Packing coded bs cs ys from n → 2 * (from + n) + 1 < length bs → n < length ys → y ≡ get_or ys n y → ds ≡ set (set cs (2 * (from + n)) (coded y / 256)) (2 * (from + n) + 1) (coded y % 256) → Packing coded bs ds ys from (n + 1)

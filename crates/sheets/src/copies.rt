@@ -1,5 +1,5 @@
 // Copies between sheets.
-ghost use Rattle.std.specs.Prelude.{◌≡◌, ℕ, ◌+◌, ◌<◌, ◌≤◌, false, ◌||◌, [], ◌∷◌, length, nat_lt};
+ghost use Rattle.std.specs.Prelude.{◌≡◌, ℕ, ◌+◌, ◌^◌, ◌<◌, ◌≤◌, false, ◌||◌, [], ◌∷◌, length, nat_lt};
 ghost use Rattle.marks.specs.Refusals.{told, checked, accepted};
 ghost use Rattle.sheets.specs.Runs.{broken, Holds, outside, Written};
 ghost use Rattle.sheets.specs.Copies.{misplaced, broken_rows, copy_told, Copied, CopyLeaves, ScratchLeft};
@@ -12,6 +12,19 @@ use marks::Refusal;
 pub struct Place {
     pub row: usize,
     pub col: usize,
+}
+
+impl Place {
+    // The place so many rows below.
+    fn below(self, rows: usize) -> Place
+        requires { self.row + rows < 2 ^ 64 }
+        ensures { result ≡ record { row = self.row + rows; col = self.col } }
+    {
+        Place {
+            row: self.row + rows,
+            col: self.col,
+        }
+    }
 }
 
 // How many rows and columns a rectangle has.
@@ -58,6 +71,7 @@ fn check_rows<S: Sheet>(
     requires cols { from.col + length run.old ≤ (S.Sheet.meaning source.now).cols }
     ensures { told result ≡ checked ((broken_rows (S.Sheet.meaning source.now) from (length run.old) height, 7) ∷ []) tt }
 {
+    // No slice is gone through: i counts rows of the sheet, and the invariant counts them from 0 too.
     for i in 0..height {
         source.read(from.row + i, from.col, run)?;
     }
@@ -83,15 +97,7 @@ fn copy_rows<S: Sheet, T: WritableSheet<Mark = S::Mark>>(
     ensures leaves { Copied (S.Sheet.meaning source.now) from (T.Sheet.meaning target.old) (T.Sheet.meaning target.new) to height (length run.old) }
 {
     for i in 0..height {
-        let row = Place {
-            row: from.row + i,
-            col: from.col,
-        };
-        let target_row = Place {
-            row: to.row + i,
-            col: to.col,
-        };
-        copy_row(source, row, target, target_row, run)?;
+        copy_row(source, from.below(i), target, to.below(i), run)?;
     }
     Ok(())
 }

@@ -7,38 +7,38 @@ ghost use Rattle.sheets.specs.Layouts.{code_at, code_cell, packed, make_told};
 use crate::sheet::{Sheet, WritableSheet};
 use crate::sides::Sides;
 use marks::{CodedMark, Refusal};
+use std::marker::PhantomData;
 
 // A sheet whose codes lie row by row in bytes, two to a cell, the high byte first. A cell whose code is no mark's is dead.
 #[derive(Drop)]
-pub struct Packed<'a, 'b, M> {
+pub struct Packed<'a, M> {
     // No `sides: Sides`, as in a raster.
     rows: usize,
     cols: usize,
     bytes: &'a mut [u8],
-    // Any mark, for its kind alone: through a mark by value or a `PhantomData` the check would lose what the bytes hold.
-    kind: &'b M,
+    kind: PhantomData<M>,
     ghost rows_side: { Side rows },
     ghost cols_side: { Side cols },
     ghost long: { length bytes.now ≡ 2 * (rows * cols) },
 }
 
-impl<'a, 'b, M: CodedMark> Packed<'a, 'b, M> {
+impl<'a, M: CodedMark> Packed<'a, M> {
     // The sheet of so many rows and columns over bytes that hold its codes; any mark names its kind.
     pub fn new(
         rows: usize,
         cols: usize,
-        kind: &'b M,
+        _kind: &M,
         bytes: &'a mut [u8],
-    ) -> Result<Packed<'a, 'b, M>, Refusal>
+    ) -> Result<Packed<'a, M>, Refusal>
         ensures told { answered (λ _. tt {0}) (told result) ≡ make_told rows cols (length bytes.old) (2 * (rows * cols)) (tt {0}) }
         ensures made { IfOk result (λ s. (s.rows ≡ rows) × (s.cols ≡ cols) × (s.bytes.now ≡ bytes.old) × (s.bytes.ghost_name ≡ bytes.entry.ghost_name)) }
     {
         let sides = Sides::fitting(rows, cols, bytes.len(), 2)?;
-        Ok(Packed::over(sides, kind, bytes))
+        Ok(Packed::over(sides, bytes))
     }
 
     // The same where the length is known to fit. Through a `Result` the check forgets whose bytes a sheet holds.
-    pub(crate) fn over(sides: Sides, kind: &'b M, bytes: &'a mut [u8]) -> Packed<'a, 'b, M>
+    pub(crate) fn over(sides: Sides, bytes: &'a mut [u8]) -> Packed<'a, M>
         requires { length bytes.old ≡ 2 * (sides.rows * sides.cols) }
         ensures rows { result.rows ≡ sides.rows }
         ensures cols { result.cols ≡ sides.cols }
@@ -50,7 +50,7 @@ impl<'a, 'b, M: CodedMark> Packed<'a, 'b, M> {
             rows,
             cols,
             bytes,
-            kind,
+            kind: PhantomData,
         }
     }
 
@@ -86,7 +86,7 @@ impl<'a, 'b, M: CodedMark> Packed<'a, 'b, M> {
     }
 }
 
-impl<'a, 'b, M: CodedMark> Sheet for Packed<'a, 'b, M> {
+impl<'a, M: CodedMark> Sheet for Packed<'a, M> {
     type Mark = M;
 
     ghost meaning = { λ s. packed M.CodedMark.decoded s.rows s.cols s.bytes.now };
@@ -116,7 +116,7 @@ impl<'a, 'b, M: CodedMark> Sheet for Packed<'a, 'b, M> {
     }
 }
 
-impl<'a, 'b, M: CodedMark> WritableSheet for Packed<'a, 'b, M> {
+impl<'a, M: CodedMark> WritableSheet for Packed<'a, M> {
     ghost loans = { λ s. s.bytes.ghost_name ∷ [] };
 
     fn write(&mut self, row: usize, col: usize, marks: &[M]) -> Result<(), Refusal> {

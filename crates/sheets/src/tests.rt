@@ -23,14 +23,6 @@ impl Work<Class> for Last {
     }
 }
 
-// The height of so many decimetres.
-fn height(dm: i16) -> Height {
-    match Height::new(dm) {
-        Some(height) => height,
-        None => Height::void(),
-    }
-}
-
 #[test]
 fn makes_rasters(rt: HostRuntime) {
     let mut work = Last {
@@ -118,7 +110,9 @@ fn runs_of_a_raster(rt: HostRuntime) -> Result<(), Fail> {
 #[test]
 fn runs_of_a_packed_sheet(rt: HostRuntime) -> Result<(), Fail> {
     let void = Height::void();
-    let marks = [height(300), height(-1), void];
+    let high = Height::new(300).ok_or(Refusal::Size)?;
+    let low = Height::new(-1).ok_or(Refusal::Size)?;
+    let marks = [high, low, void];
     let mut bytes = [0; 6];
     let mut out = [void; 2];
     let mut none: [Height; 0] = [];

@@ -49,8 +49,7 @@ pub fn on_packed<M: CodedMark, W: Work<M>>(
     ensures leaves { MatchResult result (λ _. W.Work.does work.old (packed M.CodedMark.decoded rows cols bytes.old) (packed M.CodedMark.decoded rows cols bytes.new) work.new) (λ _. (bytes.new ≡ bytes.old) × (work.new ≡ work.old)) }
 {
     let sides = Sides::fitting(rows, cols, bytes.len(), 2)?;
-    let void = M::void();
-    let mut sheet = Packed::over(sides, &void, bytes);
+    let mut sheet = Packed::<M>::over(sides, bytes);
     work.run(&mut sheet);
     Ok(())
 }

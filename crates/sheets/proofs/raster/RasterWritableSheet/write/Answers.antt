@@ -1,4 +1,4 @@
-use Rattle.std.proofs.Common.{◌≡◌, ◌+◌, ◌-◌, ◌≤◌, length, arith, rules}
+use Rattle.std.proofs.Common.{◌+◌, ◌≤◌, length, arith, rules}
 use Rattle.sheets.proofs.Spans.{part_written}
 use Rattle.sheets.proofs.Starts.{started}
 use Rattle.sheets.proofs.raster.RasterWritableSheet.write.Goals as goal
