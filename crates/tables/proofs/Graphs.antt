@@ -5,9 +5,8 @@ use Rattle.std.proofs.lemmas.Bool.{and_from, cases_lt, cases_Bool}
 use Rattle.marks.specs.Orders.{OrderLaws, highest}
 use Rattle.flood.specs.Grounds.{Crosses, LeastWorst}
 use Rattle.sheets.specs.declared.copies.Place.{Place}
-use Rattle.sheets.specs.Grids.{Grid, mark}
+use Rattle.sheets.specs.Grids.{Grid, mark, at_edge}
 use Rattle.terrain.specs.Cells.{OnEdge}
-use Rattle.terrain.specs.CellGrounds.{at_edge}
 use Rattle.terrain.specs.Terrains.{Kind, cell_at, mark_or, sheet_terrain}
 use Rattle.terrain.specs.Ways.{IsSill}
 use Rattle.terrain.proofs.Bridges.{edge_on, on_edge, highest_swap}

@@ -10,7 +10,8 @@ use Rattle.flood.specs.Grounds.{Graph, Crosses, Route, Found, Least, Drains, Dry
 use Rattle.flood.specs.Grounds as grounds
 use Rattle.sheets.specs.declared.copies.Place.{Place}
 use Rattle.terrain.specs.Cells.{place, Touches, InSheet, OnEdge, node_of, place_of}
-use Rattle.terrain.specs.CellGrounds.{at_edge, between, cell_drain, cell_graph}
+use Rattle.sheets.specs.Grids.{at_edge}
+use Rattle.terrain.specs.CellGrounds.{between, cell_drain, cell_graph}
 use Rattle.terrain.specs.Terrains.{Kind, mark_or, sheet_terrain}
 use Rattle.terrain.specs.Levels.{IsOrigin}
 use Rattle.terrain.specs.Ways.{Terrain, AtMost, Walk, Way, worst, last, IsSill}

@@ -1,6 +1,8 @@
 -- The order of marks, and the higher of two. Assumes nothing.
-use Rattle.std.proofs.Common.{◌≡◌, Bool, true, false, cond, refl}
+use Rattle.std.proofs.Common.{◌≡◌, ℕ, ◌<◌, ◌≤◌, Bool, true, false, cond, min, max, refl, sym, ap, ◌∙◌, ap₂, ⊎_elim, arith}
+use Rattle.std.proofs.lemmas.Bool.{cases_lt, lt-ltb, le-ltb}
 use Rattle.marks.specs.Orders.{OrderLaws, highest}
+use Rattle.terrain.specs.CellGrounds.{level}
 
 module _ {M : Type 0} {leb : M → M → Bool} (O : OrderLaws leb) where
   pub le_self : (a : M) → leb a a ≡ true
@@ -36,3 +38,16 @@ module _ {M : Type 0} {leb : M → M → Bool} (O : OrderLaws leb) where
 
   pub higher_le_right : (a b c : M) → leb (highest leb a b) c ≡ true → leb b c ≡ true
   higher_le_right a b c h = O.transitive _ _ _ (le_higher_right a b) h
+
+-- the level between two nodes, by the marks of all
+pub level_by : {M : Type 0} (leb : M → M → Bool) (f : ℕ → M) (u v : ℕ) (x y : M) → x ≡ f u → y ≡ f v → level leb u x v y ≡ highest leb (f (min u v)) (f (max u v))
+level_by leb f u v x y p q = ⊎_elim
+    (λ (h : u < v).
+    let low : min u v ≡ u = omega arith in
+    let high : max u v ≡ v = omega arith in
+    ap (λ b. cond b (highest leb x y) (highest leb y x)) (lt-ltb u v h) ∙ ap₂ (highest leb) (p ∙ ap f (sym low)) (q ∙ ap f (sym high)))
+    (λ (h : v ≤ u).
+    let low : min u v ≡ v = omega arith in
+    let high : max u v ≡ u = omega arith in
+    ap (λ b. cond b (highest leb x y) (highest leb y x)) (le-ltb u v h) ∙ ap₂ (highest leb) (q ∙ ap f (sym low)) (p ∙ ap f (sym high)))
+    (cases_lt u v)

@@ -1,5 +1,5 @@
 use Rattle.std.proofs.Common.{◌≡◌, ℕ, ◌<◌, ◌≤◌, Bool, true, false, length, Some, sym, refl, ap, ◌∙◌, ap₂, arith}
-use Rattle.terrain.specs.CellGrounds.{at_edge}
+use Rattle.sheets.specs.Grids.{at_edge}
 use Rattle.terrain.specs.Terrains.{kind_of}
 use Rattle.tiles.specs.Plans.{Plan, Lawful, plan_of}
 use Rattle.tiles.specs.Mouths.{mouth_number, mouths}
