@@ -10,7 +10,7 @@ ghost use Rattle.answers.specs.Printed.{coded_of, Printed};
 use crate::printing::{append_raised, copies, sheet_text};
 use flood::Entry;
 use marks::{CodedMark, Refusal};
-use sheets::{Raster, Sheet, WritableSheet};
+use sheets::{Raster, Sheet, Sides, WritableSheet};
 use std::alloc::Global;
 use terrain::{Scratch, fill_sheet};
 
@@ -59,7 +59,7 @@ fn print_with<M: CodedMark, S: Sheet<Mark = M>>(
     requires row { (S.Sheet.meaning source.now).cols ≤ length row.old }
     ensures { MatchResult result (λ v. Printed (coded_of M.Order M.Mark.lowest M.Spelled) (S.Sheet.meaning source.now) v.items) (λ e. e ≡ NoMemory) }
 {
-    let (rows, cols) = source.sides();
+    let Sides { rows, cols } = source.sides();
     let mut target = Raster::new(rows, cols, cells)?;
     let raised = fill_with(source, &mut target, marks, levels, origins, entries)?;
     let mut text = sheet_text(heap, &target, row)?;
@@ -76,7 +76,7 @@ pub(crate) fn print_sheet<M: CodedMark, S: Sheet<Mark = M>>(
     ensures { MatchResult result (λ v. Printed (coded_of M.Order M.Mark.lowest M.Spelled) (S.Sheet.meaning source.now) v.items) (λ e. e ≡ NoMemory) }
 {
     let void = M::void();
-    let (rows, cols) = source.sides();
+    let Sides { rows, cols } = source.sides();
     let n = rows * cols;
     let entry = Entry {
         level: void,

@@ -6,10 +6,6 @@ use Rattle.flood.specs.Grounds.{Graph, graph}
 use Rattle.std.specs.List.{range_with_len}
 use Rattle.terrain.specs.Neighbours.{degree, far}
 
--- the level between two nodes u and v by their marks x and y, that of the lower number first
-abbrev pub level : {M : Type 0} → (M → M → Bool) → ℕ → M → ℕ → M → M
-level leb u x v y = cond (nat_lt u v) (highest leb x y) (highest leb y x)
-
 -- the level between two cells is the higher of their marks
 abbrev pub between : {M : Type 0} → (M → M → Bool) → M → List M → ℕ → ℕ → M
 between leb void marks u v = highest leb (slice_index_or marks (min u v) void) (slice_index_or marks (max u v) void)

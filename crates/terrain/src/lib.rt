@@ -12,6 +12,5 @@ mod tests;
 pub use blocks::{read_block, write_block};
 pub use fill::{fill_sheet, is_short};
 pub use ground::CellGround;
-pub use ground::meaning::level_between;
 pub use levels::flood_cells;
 pub use scratch::Scratch;

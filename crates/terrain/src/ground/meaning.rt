@@ -1,14 +1,14 @@
 // What the ground of a sheet's cells answers.
 ghost use Rattle.std.specs.Prelude.{◌≡◌, ℕ, ◌*◌, ◌<◌, ◌≤◌, MatchOption};
 ghost use Rattle.sheets.specs.Grids.{Side};
-ghost use Rattle.terrain.specs.CellGrounds.{level, cell_crossings, cell_drain};
+ghost use Rattle.terrain.specs.CellGrounds.{cell_crossings, cell_drain};
 ghost use Rattle.terrain.specs.Cells.{node_of};
 ghost use Rattle.terrain.specs.Neighbours.{degree, neighbour, span};
 ghost use Rattle.terrain.specs.CellLaws.{cell_laws};
 
 use crate::ground::CellGround;
 use flood::Ground;
-use marks::{Mark, Order, higher};
+use marks::{Mark, higher};
 use sheets::Sides;
 
 impl<'a, M: Mark> Ground for CellGround<'a, M> {
@@ -27,31 +27,16 @@ impl<'a, M: Mark> Ground for CellGround<'a, M> {
     }
 
     fn crossing(&self, node: usize, place: usize) -> Option<(usize, M)> {
-        let marks = self.marks;
-        if node >= marks.len() {
-            return None;
-        }
-        let cols = self.sides.cols;
-        let far = neighbour(self.sides, node / cols, node % cols, place)?;
-        Some((far, level_between(node, marks[node], far, marks[far])))
+        let mark = *self.marks.get(node)?;
+        let (row, col) = (node / self.sides.cols, node % self.sides.cols);
+        let far = neighbour(self.sides, row, col, place)?;
+        Some((far, higher(mark, self.marks[far])))
     }
 
     fn drain(&self, node: usize) -> Option<M> {
         let mark = *self.marks.get(node)?;
         let (row, col) = (node / self.sides.cols, node % self.sides.cols);
         self.sides.on_edge(row, col).then_some(mark)
-    }
-}
-
-// The higher of the marks of two nodes. That of the lower number comes first, so that both ways the level is one by its
-// form.
-pub fn level_between<M: Order>(node: usize, mark: M, far: usize, far_mark: M) -> M
-    ensures { result ≡ level M.Order.leb node mark far far_mark }
-{
-    if node < far {
-        higher(mark, far_mark)
-    } else {
-        higher(far_mark, mark)
     }
 }
 

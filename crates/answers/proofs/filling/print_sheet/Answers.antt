@@ -6,7 +6,7 @@ pub print_with-requires : goal.print_with-requires
 print_with-requires g c =
     let m = g.S.Sheet.meaning c.args.source.now in
     let s = c.sides-rows.ensures in
-    let all : c.sides-rows.result.0 * c.sides-rows.result.1 ≡ size m = (λ i. s.rows i * s.cols i) in
+    let all : c.sides-rows.result.rows * c.sides-rows.result.cols ≡ size m = (λ i. s.rows i * s.cols i) in
     let row = c.as_mut_slice-6.ensures.len ∙ c.in_ok-row.ensures ∙ s.cols in
     record {
       live = c.requires;

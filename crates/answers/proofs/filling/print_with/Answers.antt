@@ -9,8 +9,8 @@ pub returns-in_err-target : goal.returns-in_err-target
 returns-in_err-target g c =
     let sided = g.S.Sheet.sided c.args.source.now in
     let s = c.sides-rows.ensures in
-    let want : length c.args.cells.now ≡ c.sides-rows.result.0 * c.sides-rows.result.1 = c.requires.cells ∙ (λ i. sym s.rows i * sym s.cols i) in
-    absurd (is_made c.sides-rows.result.0 c.sides-rows.result.1 (length c.args.cells.now) (c.sides-rows.result.0 * c.sides-rows.result.1) (tt {0}) (subst Side (sym s.rows) sided.rows) (subst Side (sym s.cols) sided.cols) want _ _ c.in_err-target.ensures.told)
+    let want : length c.args.cells.now ≡ c.sides-rows.result.rows * c.sides-rows.result.cols = c.requires.cells ∙ (λ i. sym s.rows i * sym s.cols i) in
+    absurd (is_made c.sides-rows.result.rows c.sides-rows.result.cols (length c.args.cells.now) (c.sides-rows.result.rows * c.sides-rows.result.cols) (tt {0}) (subst Side (sym s.rows) sided.rows) (subst Side (sym s.cols) sided.cols) want _ _ c.in_err-target.ensures.told)
 
 pub returns-in_err-raised : goal.returns-in_err-raised
 returns-in_err-raised g c =
