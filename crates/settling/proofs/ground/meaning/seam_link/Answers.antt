@@ -83,11 +83,17 @@ bounds-mouths-node g c = below (plan_of c.args.cuts.now) c.sides-rows.ensures.ru
 pub offset_bounds-mouths-node : goal.offset_bounds-mouths-node
 offset_bounds-mouths-node g c = omega (arith, bounds-mouths-node g c)
 
+pub bounds-mouths-node-in_ok-far : goal.bounds-mouths-node-in_ok-far
+bounds-mouths-node-in_ok-far g c = bounds-mouths-node g c
+
 pub bounds-mouths-far : goal.bounds-mouths-far
 bounds-mouths-far g c = below (plan_of c.args.cuts.now) c.sides-rows.ensures.rules c.in_ok-cell.cell.row c.in_ok-cell.cell.col c.in_ok-far.far _ (sym c.mouth_number.ensures ∙ c.in_ok-far.was) c.requires.room
 
 pub offset_bounds-mouths-far : goal.offset_bounds-mouths-far
 offset_bounds-mouths-far g c = omega (arith, bounds-mouths-far g c)
+
+pub bounds-mouths-far-in_ok-far : goal.bounds-mouths-far-in_ok-far
+bounds-mouths-far-in_ok-far g c = bounds-mouths-far g c
 
 pub returns : goal.returns
 returns g c =
@@ -100,7 +106,7 @@ returns g c =
     let here = below p c.sides-rows.ensures.rules m.row m.col c.args.node (length ms) c.requires.here.number c.requires.room in
     let there = below p c.sides-rows.ensures.rules d.row d.col c.in_ok-far.far (length ms) (sym c.mouth_number.ensures ∙ c.in_ok-far.was) c.requires.room in
     let O : OrderLaws κ.leb = record { total = g.met.M.Order.total; transitive = g.met.M.Order.transitive; antisymmetric = g.met.M.Order.antisymmetric } in
-    let level = c.higher.ensures ∙ higher_by O (mark_of κ.void ms) c.args.node c.in_ok-far.far _ _ (mark_read κ.void ms c.args.node c.args.node _ refl here c.index-mouths-node.is) (mark_read κ.void ms c.in_ok-far.far c.in_ok-far.far _ refl there c.index-mouths-far.is) in
+    let level = c.higher.ensures ∙ higher_by O (mark_of κ.void ms) c.args.node c.in_ok-far.far _ _ (ap (λ r. r.mark) (sym c.index-mouths-node.is) ∙ mark_read κ.void ms c.args.node c.args.node _ refl here c.index-mouths-node.is) (ap (λ r. r.mark) (sym c.index-mouths-far.is) ∙ mark_read κ.void ms c.in_ok-far.far c.in_ok-far.far _ refl there c.index-mouths-far.is) in
     ap (λ l. Some (c.in_ok-far.far, l)) level
     ∙ sym (seam_over κ p c.sides-rows.ensures.rules ms c.args.node c.args.k m.row m.col c.requires.here.number d
     (looked p c.sides-rows.result (place m.row m.col) c.args.k (Some d) c.around.result c.sides-rows.ensures.value c.around.ensures c.in_ok-cell.was)
