@@ -10,7 +10,7 @@ ghost use Rattle.answers.specs.Printed.{coded_of, Printed};
 use crate::printing::{append_raised, sheet_text};
 use flood::Entry;
 use marks::{CodedMark, Refusal};
-use sheets::{Raster, Sheet};
+use sheets::{Raster, Sheet, Sides};
 use std::alloc::Global;
 use terrain::{Scratch, fill_sheet};
 
@@ -23,7 +23,7 @@ pub(crate) fn print_sheet<M: CodedMark, S: Sheet<Mark = M>>(
     ensures { MatchResult result (λ v. Printed (coded_of M.Order M.Mark.lowest M.Spelled) (S.Sheet.meaning source.now) v.items) (λ e. e ≡ NoMemory) }
 {
     let void = M::void();
-    let (rows, cols) = source.sides();
+    let Sides { rows, cols } = source.sides();
     let n = rows * cols;
     let entry = Entry {
         level: void,

@@ -10,7 +10,7 @@ use crate::cells::{fill, readable};
 use crate::parts::{next_line, skip_parts};
 use crate::text::Text;
 use marks::{CodedMark, Refusal};
-use sheets::Sheet;
+use sheets::{Sheet, Sides};
 use std::alloc::Global;
 use std::marker::PhantomData;
 use texts::check_text;
@@ -64,8 +64,11 @@ impl<'a, M: CodedMark> Sheet for Text<'a, M> {
 
     ghost sided = { λ s. record { rows = s.rows_side; cols = s.cols_side } };
 
-    fn sides(&self) -> (usize, usize) {
-        (self.rows, self.cols)
+    fn sides(&self) -> Sides {
+        Sides {
+            rows: self.rows,
+            cols: self.cols,
+        }
     }
 
     // The whole run is looked at before any of it is handed out.

@@ -8,7 +8,7 @@ ghost use Rattle.terrain.specs.Fills.{dead_in};
 ghost use Rattle.brackets.specs.Writes.{row_lines, line_of, length_told, ScratchKept};
 
 use marks::{CodedMark, Height, Refusal, Spelled, Spelling};
-use sheets::Sheet;
+use sheets::{Sheet, Sides};
 
 // A side in decimal: a height of so many decimetres is spelled just so.
 pub(crate) fn digits(side: usize) -> Spelling
@@ -40,7 +40,7 @@ fn rows_length<M: CodedMark, S: Sheet<Mark = M>>(sheet: &S, run: &mut [M]) -> Re
     ensures told { told result ≡ checked ((dead_in (S.Sheet.meaning sheet.now), 7) ∷ []) (length (row_lines M.Spelled.spelled (S.Sheet.meaning sheet.now) (S.Sheet.meaning sheet.now).rows)) }
     ensures small { IfOk result (λ n. n ≤ 14342 * 2048) }
 {
-    let (rows, _) = sheet.sides();
+    let rows = sheet.sides().rows;
     let mut len = 0;
     for i in 0..rows {
         sheet.read(i, 0, run)?;
@@ -67,7 +67,7 @@ pub fn text_length<M: CodedMark, S: Sheet<Mark = M>>(
     ensures told { told result ≡ length_told M.Spelled.named M.Spelled.spelled (S.Sheet.meaning sheet.now) (length scratch.old) }
     ensures scratch { ScratchKept scratch.old scratch.new result }
 {
-    let (rows, cols) = sheet.sides();
+    let Sides { rows, cols } = sheet.sides();
     if scratch.len() < cols {
         return Err(Refusal::ScratchShort);
     }

@@ -8,7 +8,7 @@ ghost use Rattle.brackets.specs.Writes.{Put, row_lines, line_of, blanked, writin
 
 use crate::measuring::{digits, text_length};
 use marks::{CodedMark, Refusal};
-use sheets::Sheet;
+use sheets::{Sheet, Sides};
 
 // Writes some bytes at a place, and answers where they end.
 fn put(out: &mut [u8], at: usize, word: &[u8]) -> usize
@@ -77,7 +77,7 @@ fn put_rows<M: CodedMark, S: Sheet<Mark = M>>(
     requires room { from + length (row_lines M.Spelled.spelled (S.Sheet.meaning sheet.now) (S.Sheet.meaning sheet.now).rows) ≤ length out.old }
     ensures { Put out.old out.new from (row_lines M.Spelled.spelled (S.Sheet.meaning sheet.now) (S.Sheet.meaning sheet.now).rows) result }
 {
-    let (rows, _) = sheet.sides();
+    let rows = sheet.sides().rows;
     let mut at = from;
     for i in 0..rows {
         match sheet.read(i, 0, run) {
@@ -102,7 +102,7 @@ pub fn write_text<M: CodedMark, S: Sheet<Mark = M>>(
     if out.len() < len {
         return Err(Refusal::BufferShort);
     }
-    let (rows, cols) = sheet.sides();
+    let Sides { rows, cols } = sheet.sides();
     let first = put_head::<M>(out, rows, cols);
     let last = put_rows(sheet, &mut scratch[0..cols], out, first);
     Ok(put(out, last, b")\n"))

@@ -3,11 +3,10 @@ use Rattle.std.proofs.Common.{◌≡◌, ℕ, zero, suc, ◌+◌, ◌*◌, ◌/�
 use Rattle.std.proofs.lemmas.Bool.{and_parts, and_from, cases_eq, cases_Bool}
 use Rattle.marks.specs.Orders.{OrderLaws, highest}
 use Rattle.sheets.specs.declared.copies.Place.{Place}
-use Rattle.sheets.specs.Grids.{mark, at}
+use Rattle.sheets.specs.Grids.{mark, at, at_edge}
 use Rattle.sheets.specs.Layouts.{flat}
 use Rattle.sheets.proofs.Marks.{at-get_or}
 use Rattle.terrain.specs.Cells.{Touches, InSheet, OnEdge, node_of, place_of}
-use Rattle.terrain.specs.CellGrounds.{at_edge}
 use Rattle.terrain.specs.CellLaws.{place_in, node_place, node_in, place_node}
 use Rattle.terrain.specs.Terrains.{Kind, sheet_terrain}
 use Rattle.terrain.specs.Under.{Under, stop, step, Drains}

@@ -1,7 +1,7 @@
 -- A test that the checker computes: whether given marks are the sills of a sheet. Assumes nothing.
 use Rattle.std.proofs.Common.{ℕ, zero, suc, ◌+◌, ◌*◌, ◌/◌, ◌%◌, Bool, true, cond, not, ◌&&◌, ◌||◌, eqb, ltb, leb, List, length, get_or}
 use Rattle.marks.specs.Orders.{highest}
-use Rattle.terrain.specs.CellGrounds.{at_edge}
+use Rattle.sheets.specs.Grids.{at_edge}
 use Rattle.terrain.specs.Terrains.{Kind}
 
 -- a test passes of every number below n

@@ -3,7 +3,7 @@ use Rattle.std.proofs.Common.{◌≡◌, ℕ, ◌+◌, ◌<◌, ◌≤◌, Bool,
 use Rattle.std.proofs.lemmas.Bool.{ltb-false, leb-false, le-ltb, lt-leb, or_parts, or_from}
 use Rattle.marks.specs.Refusals.{Told, accepted, refused, checked}
 use Rattle.sheets.specs.Grids.{Side}
-use Rattle.sheets.specs.Layouts.{bad_side, bad_sides}
+use Rattle.sheets.specs.Layouts.{bad_side}
 use Rattle.sheets.specs.Runs.{overruns}
 
 -- a check that fails refuses
@@ -59,10 +59,6 @@ not_refused m p x e = let z : ◌≡◌ {A = ℕ} 0 1 = cc in omega arith
 -- a side that is not bad is one that a sheet may have
 pub side_lawful : (n : ℕ) → bad_side n ≡ false → Side n
 side_lawful n e = let p = or_parts (ltb n 1) (ltb 2048 n) e in (ltb-false n 1 p.0, ltb-false 2048 n p.1)
-
--- likewise both sides
-pub sides_lawful : (rows cols : ℕ) → bad_sides rows cols ≡ false → Side rows × Side cols
-sides_lawful rows cols e = let p = or_parts (bad_side rows) (bad_side cols) e in (side_lawful rows p.0, side_lawful cols p.1)
 
 -- a run that stays within the sides
 pub run_fits : (rows cols row col n : ℕ) → overruns rows cols row col n ≡ false → (row < rows) × (col + n ≤ cols)

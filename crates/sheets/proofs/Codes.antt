@@ -1,5 +1,7 @@
 -- Codes of two bytes in a list of bytes. Assumes nothing.
-use Rattle.std.proofs.Common.{◌≡◌, ℕ, ◌+◌, ◌*◌, ◌/◌, ◌%◌, ◌<◌, ◌≤◌, true, false, ◌≢◌, List, length, get_or, set, Some, Option, sym, refl, ap, ◌∙◌, arith, below_more}
+use Rattle.std.proofs.Common.{◌≡◌, ℕ, ◌+◌, ◌*◌, ◌/◌, ◌%◌, ◌<◌, ◌≤◌, Bool, true, false, ◌≢◌, List, length, get_or, set, Some, Option, MatchBool, sym, ap, ◌∙◌, subst, arith, below_more}
+use Rattle.std.specs.List.{range_with_len, AllWithin, HoldsAt}
+use Rattle.std.proofs.lemmas.List.FromFn.{length-range_with_len, get_or-range_with_len}
 use Rattle.std.proofs.lemmas.Nat.{div-add-mod'}
 use Rattle.std.proofs.lemmas.List.{length-set, get_or-set_same, get_or-set_other}
 use Rattle.sheets.specs.Grids.{mark, is_dead, cell_of, at}
@@ -30,14 +32,16 @@ module _ (bs : List ℕ) (p high low : ℕ) where
       let b : get_or (set one (2 * p + 1) low) (2 * k + 1) 0 ≡ get_or bs (2 * k + 1) 0 = get_or-set_other one (2 * p + 1) (2 * k + 1) low 0 n2 ∙ get_or-set_other bs (2 * p) (2 * k + 1) high 0 n3 in
       omega (arith, a, b)
 
+-- what is said of all numbers from one on, said of each
+pub all_over : (P Q : ℕ → Type 0) (a n : ℕ) (r : Bool) → MatchBool r (AllWithin P (range_with_len a n) 0 (length (range_with_len a n))) ((k : ℕ) × (k < length (range_with_len a n)) × HoldsAt Q (range_with_len a n) k) → MatchBool r ((k : ℕ) → k < n → P (a + k)) ((k : ℕ) × (k < n) × Q (a + k))
+all_over P Q a n true h = λ k lt. subst P (get_or-range_with_len a n k 0 lt) (h k 0 (omega arith) (omega (arith, length-range_with_len a n)))
+all_over P Q a n false h = let lt : h.0 < n = omega (arith, h.1, length-range_with_len a n) in (h.0, lt, subst Q (get_or-range_with_len a n h.0 0 lt) (h.2 0))
+
 -- the first n of some marks were put, by their codes, into bytes at a place, and no other code was changed
 pub record Packing {M : Type 0} (coded : M → ℕ) (before after : List ℕ) (ys : List M) (from n : ℕ) : Type 0 where
   pub long : length after ≡ length before
   pub run : (k : ℕ) → k < n → (y : M) → at ys k ≡ mark y → code_at after (from + k) ≡ coded y
   pub rest : (i : ℕ) → (from ≤ i → i < from + n → ⊥) → code_at after i ≡ code_at before i
-
-pub packing_none : {M : Type 0} (coded : M → ℕ) (bs : List ℕ) (ys : List M) (from : ℕ) → Packing coded bs bs ys from 0
-packing_none coded bs ys from = record { long = refl; run = λ k h. absurd (omega arith); rest = λ i h. refl }
 
 module _ {M : Type 0} (coded : M → ℕ) (bs cs ds : List ℕ) (ys : List M) (from n : ℕ) (y : M) where
   pub packing_more : Packing coded bs cs ys from n → 2 * (from + n) + 1 < length bs → n < length ys → y ≡ get_or ys n y → ds ≡ set (set cs (2 * (from + n)) (coded y / 256)) (2 * (from + n) + 1) (coded y % 256) → Packing coded bs ds ys from (n + 1)

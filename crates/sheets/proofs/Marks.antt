@@ -1,5 +1,7 @@
 -- What stands at a place of a list of marks. Assumes nothing.
-use Rattle.std.proofs.Common.{◌≡◌, ℕ, zero, suc, ◌+◌, ◌<◌, true, false, ◌≢◌, List, [], ◌∷◌, length, get_or, take, drop, set, Some, None, Option, sym, refl, ap, ◌∙◌, suc-add, zero-add, arith, below_more}
+use Rattle.std.proofs.Common.{◌≡◌, ℕ, zero, suc, ◌+◌, ◌<◌, ◌≤◌, true, false, ◌≢◌, List, [], ◌∷◌, ◌++◌, length, get_or, take, drop, set, Some, None, Option, sym, refl, ap, ◌∙◌, suc-add, zero-add, arith, below_more}
+use borrow.Rule.Slice.PartMut.{put_mid, post_of}
+use Rattle.std.proofs.lemmas.List.{length-take-le}
 use Rattle.sheets.specs.Grids.{Cell, mark, is_dead, cell_of, at}
 
 -- the two cases of a cell differ
@@ -46,6 +48,32 @@ pub at_drop : {M : Type 0} (xs : List M) (n k : ℕ) → at (drop n xs) k ≡ at
 at_drop xs zero k = ap (at xs) (sym (zero-add k))
 at_drop [] (suc n) k = refl
 at_drop (x ∷ xs) (suc n) k = at_drop xs n k ∙ ap (at (x ∷ xs)) (sym (suc-add n k))
+
+-- the first marks of two lists end to end, and the others
+pub at_front : {M : Type 0} (xs ys : List M) (k : ℕ) → k < length xs → at (xs ++ ys) k ≡ at xs k
+at_front [] ys k h = absurd (omega arith)
+at_front (x ∷ xs) ys zero h = refl
+at_front (x ∷ xs) ys (suc k) h = at_front xs ys k (omega arith)
+
+pub at_back : {M : Type 0} (xs ys : List M) (k : ℕ) → at (xs ++ ys) (length xs + k) ≡ at ys k
+at_back [] ys k = ap (at ys) (zero-add k)
+at_back (x ∷ xs) ys k = ap (at (x ∷ (xs ++ ys))) (suc-add (length xs) k) ∙ at_back xs ys k
+
+-- a part of a list that is overwritten, and what stands before and behind it
+module _ {M : Type 0} (a n : ℕ) (xs ys : List M) (within : a ≤ length xs) where
+  pub at_before : (k : ℕ) → k < a → at (put_mid a n xs ys) k ≡ at xs k
+  at_before k h = at_front (take a xs) (ys ++ post_of a n xs) k (omega (arith, length-take-le a xs within)) ∙ at_take xs a k h
+
+  after_front : (k : ℕ) → at (put_mid a n xs ys) (a + k) ≡ at (ys ++ post_of a n xs) k
+  after_front k = ap (λ l. at (put_mid a n xs ys) (l + k)) (sym (length-take-le a xs within)) ∙ at_back (take a xs) (ys ++ post_of a n xs) k
+
+  pub at_part : (k : ℕ) → k < length ys → at (put_mid a n xs ys) (a + k) ≡ at ys k
+  at_part k h = after_front k ∙ at_front ys (post_of a n xs) k h
+
+  pub at_behind : length ys ≡ n → (k : ℕ) → at (put_mid a n xs ys) (a + (n + k)) ≡ at xs (a + (n + k))
+  at_behind long k =
+      after_front (n + k) ∙ ap (λ l. at (ys ++ post_of a n xs) (l + k)) (sym long) ∙ at_back ys (post_of a n xs) k
+      ∙ at_drop (drop a xs) n k ∙ at_drop xs a (n + k)
 
 -- a place that is set, and the others
 pub at_set_same : {M : Type 0} (xs : List M) (k : ℕ) (y : M) → k < length xs → at (set xs k y) k ≡ mark y

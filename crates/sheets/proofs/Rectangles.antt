@@ -1,17 +1,10 @@
 -- Rectangles that hold a dead cell or none, and rectangles that are copied row by row. Assumes nothing.
-use Rattle.std.proofs.Common.{◌≡◌, ℕ, zero, suc, ◌+◌, ◌<◌, ◌≤◌, true, false, ltb, List, length, sym, refl, ap, ◌∙◌, ⊎_elim, add-one, arith}
-use Rattle.std.proofs.lemmas.Bool.{or_parts, or_from, or_left, or_right, cases_eq, ltb-false}
+use Rattle.std.proofs.Common.{◌≡◌, ℕ, zero, suc, ◌+◌, ◌<◌, ◌≤◌, true, false, List, length, sym, ap, ◌∙◌, ⊎_elim, add-one, arith}
+use Rattle.std.proofs.lemmas.Bool.{or_parts, or_from, or_left, or_right, cases_eq}
 use Rattle.sheets.specs.declared.copies.Place.{Place}
-use Rattle.sheets.specs.declared.copies.Extent.{Extent}
 use Rattle.sheets.specs.Grids.{Grid}
 use Rattle.sheets.specs.Runs.{broken, Holds, Written}
-use Rattle.sheets.specs.Copies.{exceeds, broken_rows, Copied}
-
--- a rectangle that stays within the sides
-pub rectangle_fits : (rows cols : ℕ) (p : Place) (e : Extent) → exceeds rows cols p e ≡ false → (p.row + e.height ≤ rows) × (p.col + e.width ≤ cols)
-rectangle_fits rows cols p e h =
-    let q = or_parts (ltb rows (p.row + e.height)) (ltb cols (p.col + e.width)) h in
-    (ltb-false rows (p.row + e.height) q.0, ltb-false cols (p.col + e.width) q.1)
+use Rattle.sheets.specs.Copies.{broken_rows, Copied}
 
 module _ {M : Type 0} (g : Grid M) (p : Place) (w : ℕ) where
   -- no row of an unbroken rectangle is broken
@@ -31,9 +24,6 @@ module _ {M : Type 0} (g : Grid M) (p : Place) (w : ℕ) where
   -- one more row that is not broken
   pub rows_more : (n : ℕ) → broken_rows g p w n ≡ false → broken g (p.row + n) p.col w ≡ false → broken_rows g p w (n + 1) ≡ false
   rows_more n e b = ap (broken_rows g p w) (add-one n) ∙ or_from (broken g (p.row + n) p.col w) (broken_rows g p w n) b e
-
-pub copied_none : {M : Type 0} (g : Grid M) (p : Place) (h : Grid M) (q : Place) (w : ℕ) → Copied g p h h q 0 w
-copied_none g p h q w = record { rows = refl; cols = refl; new = λ i j hi. absurd (omega arith); rest = λ i j hi hj out. refl }
 
 -- one more row that is copied
 module _ {M : Type 0} (g : Grid M) (p : Place) (h h' h'' : Grid M) (q : Place) (n w : ℕ) (ys : List M) (so_far : Copied g p h h' q n w) (long : length ys ≡ w) (row_in : q.row + n < h.rows) (run_in : q.col + w ≤ h.cols) where

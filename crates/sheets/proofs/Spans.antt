@@ -1,11 +1,11 @@
 -- Runs that hold a dead cell or none, and runs that are written. Assumes nothing.
-use Rattle.std.proofs.Common.{◌≡◌, ℕ, zero, suc, ◌+◌, ◌*◌, ◌<◌, ◌≤◌, true, false, ◌≢◌, List, length, get_or, take, drop, set, sym, refl, ap, ◌∙◌, ⊎_elim, add_assoc, arith, below_more}
-use Rattle.std.proofs.lemmas.List.{length-set}
-use Rattle.std.proofs.lemmas.Bool.{or_parts, or_from, or_left, or_right, cases_eq}
-use Rattle.sheets.specs.Grids.{mark, is_dead, at, Grid}
+use Rattle.std.proofs.Common.{◌≡◌, ℕ, zero, suc, ◌+◌, ◌-◌, ◌*◌, ◌<◌, ◌≤◌, true, false, List, length, take, drop, sym, refl, ap, ◌∙◌, ⊎_elim, subst, arith}
+use borrow.Rule.Slice.PartMut.{put_mid}
+use Rattle.std.proofs.lemmas.Bool.{or_parts, or_from, or_left, or_right, cases_eq, cases_lt}
+use Rattle.sheets.specs.Grids.{is_dead, at, Grid}
 use Rattle.sheets.specs.Runs.{broken, Written}
 use Rattle.sheets.specs.Layouts.{flat}
-use Rattle.sheets.proofs.Marks.{at-get_or, at_alive, at_take, at_drop, at_set_same, at_set_other, at_ext}
+use Rattle.sheets.proofs.Marks.{at_alive, at_take, at_drop, at_before, at_part, at_behind}
 use Rattle.sheets.proofs.Places.{apart}
 
 module _ {M : Type 0} (g : Grid M) (row col : ℕ) where
@@ -33,40 +33,32 @@ pub read_part : {M : Type 0} (xs ys : List M) (from n row cols col : ℕ) → fr
 read_part xs ys from n row cols col ef ey long k lt =
     sym (ap (λ l. at l k) ey ∙ at_take (drop from xs) n k (omega arith) ∙ at_drop xs from k ∙ ap (at xs) (omega arith))
 
--- n marks of ys were put into a list at a place, and nothing else was changed
-pub record Put {M : Type 0} (before after ys : List M) (from n : ℕ) : Type 0 where
-  pub long : length after ≡ length before
-  pub run : (k : ℕ) → k < n → at after (from + k) ≡ at ys k
-  pub rest : (i : ℕ) → (from ≤ i → i < from + n → ⊥) → at after i ≡ at before i
+-- a part of a list that is overwritten by the marks ys, handed over as zs, is a run that is written into the grid laid out in it
+module _ {M : Type 0} (rows cols : ℕ) (xs zs ys : List M) (row col from : ℕ) (starts : from ≡ row * cols + col) (fits : col + length ys ≤ cols) (within : from + length ys ≤ length xs) where
+  here : from ≤ length xs
+  here = omega arith
 
-pub put_none : {M : Type 0} (xs ys : List M) (from : ℕ) → Put xs xs ys from 0
-put_none xs ys from = record { long = refl; run = λ k h. absurd (omega arith); rest = λ i h. refl }
+  after : List M
+  after = put_mid from (length ys) xs ys
 
-pub put_more : {M : Type 0} (xs zs ys : List M) (from n : ℕ) (y : M) → Put xs zs ys from n → from + n < length xs → n < length ys → y ≡ get_or ys n y → Put xs (set zs (from + n) y) ys from (n + 1)
-put_more xs zs ys from n y h within more read =
-    let is : at ys n ≡ mark y = at-get_or ys n y more ∙ ap mark (sym read) in
-    let inside : from + n < length zs = omega (arith, h.long) in
-    record {
-      long = length-set zs (from + n) y ∙ h.long;
-      run = below_more _ _ (λ k lt. let ne : from + k ≢ from + n = omega arith in at_set_other zs (from + n) (from + k) y ne ∙ h.run k lt) (at_set_same zs (from + n) y inside ∙ sym is);
-      rest = λ i out. let ne : i ≢ from + n = (λ e. out (omega arith) (omega arith)) in at_set_other zs (from + n) i y ne ∙ h.rest i (λ p q. out p (omega arith));
-    }
-
--- marks that are put into a list are written into the grid that is laid out in it
-pub put_written : {M : Type 0} (rows cols : ℕ) (xs : List M) (rows' cols' : ℕ) (zs ys : List M) (row col : ℕ) → rows' ≡ rows → cols' ≡ cols → col + length ys ≤ cols → Put xs zs ys (row * cols + col) (length ys) → Written (flat rows cols xs) (flat rows' cols' zs) row col ys
-put_written rows cols xs rows' cols' zs ys row col er ec k h =
-    record {
-      rows = er;
-      cols = ec;
-      run = λ n lt. ap (λ w. at zs (row * w + (col + n))) ec ∙ ap (at zs) (sym (add_assoc (row * cols) col n)) ∙ h.run n lt;
-      rest = λ i j hi hj out. ap (λ w. at zs (i * w + j)) ec ∙ h.rest (i * cols + j) (apart cols row col (length ys) i j k hj out);
-    }
+  pub part_written : zs ≡ ys → Written (flat rows cols xs) (flat rows cols (put_mid from (from + length ys - from) xs zs)) row col ys
+  unfolding after
+  part_written is =
+      let n : from + length ys - from ≡ length ys = omega arith in
+      let e : put_mid from (from + length ys - from) xs zs ≡ after = λ i. put_mid from (n i) xs (is i) in
+      rw e (record {
+        rows = refl;
+        cols = refl;
+        run = λ k lt. let place : row * cols + (col + k) ≡ from + k = omega arith in ap (at after) place ∙ at_part from (length ys) xs ys here k lt;
+        rest = λ i j hi hj out. other (i * cols + j) (λ p q. apart cols row col (length ys) i j fits hj out (omega arith) (omega arith));
+      })
+    where
+      other : (i : ℕ) → (from ≤ i → i < from + length ys → ⊥) → at after i ≡ at xs i
+      other i out = ⊎_elim
+          (λ (h : i < from). at_before from (length ys) xs ys here i h)
+          (λ (h : from ≤ i). let back : from + (length ys + (i - (from + length ys))) ≡ i = omega arith in subst (λ k. at after k ≡ at xs k) back (at_behind from (length ys) xs ys here refl (i - (from + length ys))))
+          (cases_lt i from)
 
 -- a run of a grid of marks, laid out in a list that is long enough, is unbroken
 pub flat_unbroken : {M : Type 0} (rows cols : ℕ) (xs : List M) (row col n : ℕ) → row * cols + col + n ≤ length xs → broken (flat rows cols xs) row col n ≡ false
 flat_unbroken rows cols xs row col n h = unbroken (flat rows cols xs) row col n (λ k lt. at_alive xs (row * cols + (col + k)) (omega arith))
-
--- lists in which one grid is laid out are one list
-pub flat_same : {M : Type 0} (a b a' b' : ℕ) (xs ys : List M) → flat a b xs ≡ flat a' b' ys → xs ≡ ys
-flat_same a b a' b' xs ys e =
-    at_ext xs ys (λ j. let p : 0 * b + j ≡ j = omega arith in let q : 0 * b' + j ≡ j = omega arith in ap (at xs) (sym p) ∙ ap (λ g. g.cell 0 j) e ∙ ap (at ys) q)

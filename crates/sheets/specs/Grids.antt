@@ -1,5 +1,5 @@
 -- What a sheet stands for: its sides, and what stands in each cell. Assumes nothing.
-use Rattle.std.specs.Prelude.{ℕ, zero, suc, ◌≤◌, Bool, true, false, List, [], ◌∷◌, Some, None, Option}
+use Rattle.std.specs.Prelude.{ℕ, zero, suc, ◌+◌, ◌≤◌, Bool, true, false, ◌||◌, List, [], ◌∷◌, Some, None, Option, ◌==◌}
 
 -- what stands in a cell: a mark, or nothing that can be read
 pub data Cell (M : Type 0) : Type 0 where
@@ -31,6 +31,10 @@ pub record Grid (M : Type 0) : Type 0 where
 -- a side that a sheet may have
 abbrev pub Side : ℕ → Type 0
 Side n = (1 ≤ n) × (n ≤ 2048)
+
+-- the cell in row i and column j lies on the edge of so many rows and columns
+abbrev pub at_edge : ℕ → ℕ → ℕ → ℕ → Bool
+at_edge rows cols i j = (i == 0 || i + 1 == rows) || (j == 0 || j + 1 == cols)
 
 -- both sides of a grid are such
 pub record Sided {M : Type 0} (g : Grid M) : Type 0 where

@@ -1,21 +1,34 @@
 // Copies between sheets.
-ghost use Rattle.std.specs.Prelude.{◌≡◌, ℕ, ◌+◌, ◌<◌, ◌≤◌, false, ◌||◌, [], ◌∷◌, length, nat_lt};
+ghost use Rattle.std.specs.Prelude.{◌≡◌, ℕ, ◌+◌, ◌^◌, ◌<◌, ◌≤◌, false, ◌||◌, [], ◌∷◌, length, nat_lt};
 ghost use Rattle.marks.specs.Refusals.{told, checked, accepted};
 ghost use Rattle.sheets.specs.Runs.{broken, Holds, outside, Written};
-ghost use Rattle.sheets.specs.Copies.{exceeds, misplaced, broken_rows, copy_told, Copied, CopyLeaves, ScratchLeft};
+ghost use Rattle.sheets.specs.Copies.{misplaced, broken_rows, copy_told, Copied, CopyLeaves, ScratchLeft};
 
 use crate::sheet::{Sheet, WritableSheet};
 use marks::Refusal;
 
 // Where a rectangle begins.
-#[derive(Clone, Copy)]
+#[derive(Clone, Copy, PartialEq, Eq, Debug)]
 pub struct Place {
     pub row: usize,
     pub col: usize,
 }
 
+impl Place {
+    // The place so many rows below.
+    fn below(self, rows: usize) -> Place
+        requires { self.row + rows < 2 ^ 64 }
+        ensures { result ≡ record { row = self.row + rows; col = self.col } }
+    {
+        Place {
+            row: self.row + rows,
+            col: self.col,
+        }
+    }
+}
+
 // How many rows and columns a rectangle has.
-#[derive(Clone, Copy)]
+#[derive(Clone, Copy, PartialEq, Eq, Debug)]
 pub struct Extent {
     pub height: usize,
     pub width: usize,
@@ -36,9 +49,7 @@ pub fn copy_rectangle<S: Sheet, T: WritableSheet<Mark = S::Mark>>(
     ensures leaves { CopyLeaves (S.Sheet.meaning source.now) from (T.Sheet.meaning target.old) (T.Sheet.meaning target.new) to extent result }
     ensures scratch { ScratchLeft (misplaced (S.Sheet.meaning source.now) from (T.Sheet.meaning target.old) to extent || nat_lt (length scratch.old) extent.width) scratch.old scratch.new }
 {
-    let (rows, cols) = source.sides();
-    let (target_rows, target_cols) = target.sides();
-    if leaves(from, extent, rows, cols) || leaves(to, extent, target_rows, target_cols) {
+    if source.sides().exceeded_by(from, extent) || target.sides().exceeded_by(to, extent) {
         return Err(Refusal::Outside);
     }
     if scratch.len() < extent.width {
@@ -47,16 +58,6 @@ pub fn copy_rectangle<S: Sheet, T: WritableSheet<Mark = S::Mark>>(
     let run = &mut scratch[..extent.width];
     check_rows(source, from, extent.height, run)?;
     copy_rows(source, from, target, to, extent.height, run)
-}
-
-// Whether the rectangle at a place leaves a sheet of so many rows and columns.
-pub fn leaves(place: Place, extent: Extent, rows: usize, cols: usize) -> bool
-    ensures { result ≡ exceeds rows cols place extent }
-{
-    place.row > rows
-        || extent.height > rows - place.row
-        || place.col > cols
-        || extent.width > cols - place.col
 }
 
 // Reads every row of a rectangle that is as wide as the run, and says whether one is broken.
@@ -70,6 +71,7 @@ fn check_rows<S: Sheet>(
     requires cols { from.col + length run.old ≤ (S.Sheet.meaning source.now).cols }
     ensures { told result ≡ checked ((broken_rows (S.Sheet.meaning source.now) from (length run.old) height, 7) ∷ []) tt }
 {
+    // No slice is gone through: i counts rows of the sheet, and the invariant counts them from 0 too.
     for i in 0..height {
         source.read(from.row + i, from.col, run)?;
     }
@@ -95,15 +97,7 @@ fn copy_rows<S: Sheet, T: WritableSheet<Mark = S::Mark>>(
     ensures leaves { Copied (S.Sheet.meaning source.now) from (T.Sheet.meaning target.old) (T.Sheet.meaning target.new) to height (length run.old) }
 {
     for i in 0..height {
-        let row = Place {
-            row: from.row + i,
-            col: from.col,
-        };
-        let target_row = Place {
-            row: to.row + i,
-            col: to.col,
-        };
-        copy_row(source, row, target, target_row, run)?;
+        copy_row(source, from.below(i), target, to.below(i), run)?;
     }
     Ok(())
 }

@@ -2,17 +2,17 @@
 #![tactic(auto)]
 
 mod copies;
-mod layout;
 mod packed;
 mod raster;
 mod sheet;
+mod sides;
 #[cfg(test)]
 mod tests;
 mod works;
 
-pub use copies::{Extent, Place, copy_rectangle, leaves};
-pub use layout::check_sides;
+pub use copies::{Extent, Place, copy_rectangle};
 pub use packed::Packed;
 pub use raster::Raster;
 pub use sheet::{Sheet, WritableSheet};
+pub use sides::Sides;
 pub use works::{Work, on_packed, on_raster};

@@ -4,66 +4,53 @@ ghost use Rattle.marks.specs.Refusals.{told, answered};
 ghost use Rattle.sheets.specs.Grids.{Side, is_dead};
 ghost use Rattle.sheets.specs.Layouts.{code_at, code_cell, packed, make_told};
 
-use crate::layout::{check_sides, start_of_run};
 use crate::sheet::{Sheet, WritableSheet};
+use crate::sides::Sides;
 use marks::{CodedMark, Refusal};
+use std::marker::PhantomData;
 
 // A sheet whose codes lie row by row in bytes, two to a cell, the high byte first. A cell whose code is no mark's is dead.
 #[derive(Drop)]
-pub struct Packed<'a, 'b, M> {
+pub struct Packed<'a, M> {
+    // No `sides: Sides`, as in a raster.
     rows: usize,
     cols: usize,
     bytes: &'a mut [u8],
-    // Any mark, for its kind alone: through a mark by value or a `PhantomData` the check would lose what the bytes hold.
-    kind: &'b M,
+    kind: PhantomData<M>,
     ghost rows_side: { Side rows },
     ghost cols_side: { Side cols },
     ghost long: { length bytes.now ≡ 2 * (rows * cols) },
 }
 
-impl<'a, 'b, M: CodedMark> Packed<'a, 'b, M> {
+impl<'a, M: CodedMark> Packed<'a, M> {
     // The sheet of so many rows and columns over bytes that hold its codes; any mark names its kind.
     pub fn new(
         rows: usize,
         cols: usize,
-        kind: &'b M,
+        _kind: &M,
         bytes: &'a mut [u8],
-    ) -> Result<Packed<'a, 'b, M>, Refusal>
+    ) -> Result<Packed<'a, M>, Refusal>
         ensures told { answered (λ _. tt {0}) (told result) ≡ make_told rows cols (length bytes.old) (2 * (rows * cols)) (tt {0}) }
         ensures made { IfOk result (λ s. (s.rows ≡ rows) × (s.cols ≡ cols) × (s.bytes.now ≡ bytes.old) × (s.bytes.ghost_name ≡ bytes.entry.ghost_name)) }
     {
-        check_sides(rows, cols)?;
-        if bytes.len() != 2 * (rows * cols) {
-            return Err(Refusal::WrongLength);
-        }
-        Ok(Packed {
-            rows,
-            cols,
-            bytes,
-            kind,
-        })
+        let sides = Sides::fitting(rows, cols, bytes.len(), 2)?;
+        Ok(Packed::over(sides, bytes))
     }
 
-    // The same where sides and length are known to fit. Through a `Result` the check forgets whose bytes a sheet holds.
-    pub(crate) fn over(
-        rows: usize,
-        cols: usize,
-        kind: &'b M,
-        bytes: &'a mut [u8],
-    ) -> Packed<'a, 'b, M>
-        requires rows { Side rows }
-        requires cols { Side cols }
-        requires long { length bytes.old ≡ 2 * (rows * cols) }
-        ensures rows { result.rows ≡ rows }
-        ensures cols { result.cols ≡ cols }
+    // The same where the length is known to fit. Through a `Result` the check forgets whose bytes a sheet holds.
+    pub(crate) fn over(sides: Sides, bytes: &'a mut [u8]) -> Packed<'a, M>
+        requires { length bytes.old ≡ 2 * (sides.rows * sides.cols) }
+        ensures rows { result.rows ≡ sides.rows }
+        ensures cols { result.cols ≡ sides.cols }
         ensures bytes { result.bytes.now ≡ bytes.old }
         ensures loans { result.bytes.ghost_name ≡ bytes.entry.ghost_name }
     {
+        let Sides { rows, cols } = sides;
         Packed {
             rows,
             cols,
             bytes,
-            kind,
+            kind: PhantomData,
         }
     }
 
@@ -82,12 +69,7 @@ impl<'a, 'b, M: CodedMark> Packed<'a, 'b, M> {
         requires { from + len ≤ self.now.rows * self.now.cols }
         ensures { MatchBool result ((k : ℕ) → k < len → is_dead (code_cell M.CodedMark.decoded self.now.bytes.now (from + k)) ≡ false) ((k : ℕ) × (k < len) × (is_dead (code_cell M.CodedMark.decoded self.now.bytes.now (from + k)) ≡ true)) }
     {
-        for k in 0..len {
-            if self.mark_at(from + k).is_none() {
-                return false;
-            }
-        }
-        true
+        (from..from + len).all(|place| self.mark_at(place).is_some())
     }
 
     // Puts a mark into the cell at a place.
@@ -104,41 +86,43 @@ impl<'a, 'b, M: CodedMark> Packed<'a, 'b, M> {
     }
 }
 
-impl<'a, 'b, M: CodedMark> Sheet for Packed<'a, 'b, M> {
+impl<'a, M: CodedMark> Sheet for Packed<'a, M> {
     type Mark = M;
 
     ghost meaning = { λ s. packed M.CodedMark.decoded s.rows s.cols s.bytes.now };
 
     ghost sided = { λ s. record { rows = s.rows_side; cols = s.cols_side } };
 
-    fn sides(&self) -> (usize, usize) {
-        (self.rows, self.cols)
+    fn sides(&self) -> Sides {
+        Sides {
+            rows: self.rows,
+            cols: self.cols,
+        }
     }
 
     // The whole run is looked at before any of it is handed out.
     fn read(&self, row: usize, col: usize, out: &mut [M]) -> Result<(), Refusal> {
         let len = out.len();
-        let from = start_of_run(self.rows, self.cols, row, col, len)?;
+        let from = self.sides().start_of_run(row, col, len)?;
         if !self.readable(from, len) {
             return Err(Refusal::DeadCell);
         }
-        for k in 0..len {
+        for (k, slot) in out.iter_mut().enumerate() {
             if let Some(mark) = self.mark_at(from + k) {
-                out[k] = mark;
+                *slot = mark;
             }
         }
         Ok(())
     }
 }
 
-impl<'a, 'b, M: CodedMark> WritableSheet for Packed<'a, 'b, M> {
+impl<'a, M: CodedMark> WritableSheet for Packed<'a, M> {
     ghost loans = { λ s. s.bytes.ghost_name ∷ [] };
 
     fn write(&mut self, row: usize, col: usize, marks: &[M]) -> Result<(), Refusal> {
-        let len = marks.len();
-        let from = start_of_run(self.rows, self.cols, row, col, len)?;
-        for k in 0..len {
-            self.put(from + k, marks[k]);
+        let from = self.sides().start_of_run(row, col, marks.len())?;
+        for (k, mark) in marks.iter().enumerate() {
+            self.put(from + k, *mark);
         }
         Ok(())
     }

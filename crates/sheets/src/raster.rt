@@ -4,13 +4,14 @@ ghost use Rattle.marks.specs.Refusals.{told, answered};
 ghost use Rattle.sheets.specs.Grids.{Side};
 ghost use Rattle.sheets.specs.Layouts.{flat, make_told};
 
-use crate::layout::{check_sides, start_of_run};
 use crate::sheet::{Sheet, WritableSheet};
+use crate::sides::Sides;
 use marks::{Mark, Refusal};
 
 // A sheet whose marks lie row by row in a slice. None of its cells is dead.
 #[derive(Drop)]
 pub struct Raster<'a, M> {
+    // No `sides: Sides`: of a `Result` the check says "a type argument holds a `&mut` and a struct that has a ghost field".
     rows: usize,
     cols: usize,
     cells: &'a mut [M],
@@ -25,23 +26,19 @@ impl<'a, M> Raster<'a, M> {
         ensures told { answered (λ _. tt {0}) (told result) ≡ make_told rows cols (length cells.old) (rows * cols) (tt {0}) }
         ensures made { IfOk result (λ s. (s.rows ≡ rows) × (s.cols ≡ cols) × (s.cells.now ≡ cells.old) × (s.cells.ghost_name ≡ cells.entry.ghost_name)) }
     {
-        check_sides(rows, cols)?;
-        if cells.len() != rows * cols {
-            return Err(Refusal::WrongLength);
-        }
-        Ok(Raster { rows, cols, cells })
+        let sides = Sides::fitting(rows, cols, cells.len(), 1)?;
+        Ok(Raster::over(sides, cells))
     }
 
-    // The same where sides and length are known to fit. Through a `Result` the check forgets whose slice a sheet holds.
-    pub(crate) fn over(rows: usize, cols: usize, cells: &'a mut [M]) -> Raster<'a, M>
-        requires rows { Side rows }
-        requires cols { Side cols }
-        requires long { length cells.old ≡ rows * cols }
-        ensures rows { result.rows ≡ rows }
-        ensures cols { result.cols ≡ cols }
+    // The same where the length is known to fit. Through a `Result` the check forgets whose slice a sheet holds.
+    pub(crate) fn over(sides: Sides, cells: &'a mut [M]) -> Raster<'a, M>
+        requires { length cells.old ≡ sides.rows * sides.cols }
+        ensures rows { result.rows ≡ sides.rows }
+        ensures cols { result.cols ≡ sides.cols }
         ensures cells { result.cells.now ≡ cells.old }
         ensures loans { result.cells.ghost_name ≡ cells.entry.ghost_name }
     {
+        let Sides { rows, cols } = sides;
         Raster { rows, cols, cells }
     }
 }
@@ -53,13 +50,16 @@ impl<'a, M: Mark> Sheet for Raster<'a, M> {
 
     ghost sided = { λ s. record { rows = s.rows_side; cols = s.cols_side } };
 
-    fn sides(&self) -> (usize, usize) {
-        (self.rows, self.cols)
+    fn sides(&self) -> Sides {
+        Sides {
+            rows: self.rows,
+            cols: self.cols,
+        }
     }
 
     fn read(&self, row: usize, col: usize, out: &mut [M]) -> Result<(), Refusal> {
         let len = out.len();
-        let from = start_of_run(self.rows, self.cols, row, col, len)?;
+        let from = self.sides().start_of_run(row, col, len)?;
         out.copy_from_slice(&self.cells[from..from + len]);
         Ok(())
     }
@@ -70,10 +70,8 @@ impl<'a, M: Mark> WritableSheet for Raster<'a, M> {
 
     fn write(&mut self, row: usize, col: usize, marks: &[M]) -> Result<(), Refusal> {
         let len = marks.len();
-        let from = start_of_run(self.rows, self.cols, row, col, len)?;
-        for k in 0..len {
-            self.cells[from + k] = marks[k];
-        }
+        let from = self.sides().start_of_run(row, col, len)?;
+        self.cells[from..from + len].copy_from_slice(marks);
         Ok(())
     }
 }

@@ -5,6 +5,7 @@ ghost use Rattle.marks.specs.Refusals.{told};
 ghost use Rattle.sheets.specs.Grids.{Grid, Sided};
 ghost use Rattle.sheets.specs.Runs.{read_told, ReadLeaves, write_told, WriteLeaves};
 
+use crate::sides::Sides;
 use marks::{Mark, Refusal};
 
 // A sheet that can be read: rows and columns of cells, each with a mark or dead. Whatever it is made of, what is known
@@ -19,9 +20,9 @@ pub trait Sheet {
     ghost sided: { (s : Self) → Sided (meaning s) };
 
     // How many rows and how many columns it has.
-    fn sides(&self) -> (usize, usize)
-        ensures rows { result.0 ≡ (meaning self.now).rows }
-        ensures cols { result.1 ≡ (meaning self.now).cols };
+    fn sides(&self) -> Sides
+        ensures rows { result.rows ≡ (meaning self.now).rows }
+        ensures cols { result.cols ≡ (meaning self.now).cols };
 
     // Fills a slice with the marks of a run: as many cells of one row, from a column on.
     fn read(&self, row: usize, col: usize, out: &mut [Self::Mark]) -> Result<(), Refusal>

@@ -5,6 +5,7 @@ use crate::raster::Raster;
 use crate::sheet::{Sheet, WritableSheet};
 use crate::works::{Work, on_packed, on_raster};
 use marks::{Class, Height, Mark, Refusal};
+use std::test::Fail;
 
 // Reads the last cell of a sheet.
 #[derive(Drop)]
@@ -17,16 +18,8 @@ impl Work<Class> for Last {
     ghost does = { λ _ _ _ _. Unit {0} };
 
     fn run<T: WritableSheet<Mark = Class>>(&mut self, sheet: &mut T) {
-        let (rows, cols) = sheet.sides();
-        self.answer = sheet.read(rows - 1, cols - 1, &mut self.class);
-    }
-}
-
-// The height of so many decimetres.
-fn height(dm: i16) -> Height {
-    match Height::new(dm) {
-        Some(height) => height,
-        None => Height::void(),
+        let sides = sheet.sides();
+        self.answer = sheet.read(sides.rows - 1, sides.cols - 1, &mut self.class);
     }
 }
 
@@ -88,7 +81,7 @@ fn makes_packed_sheets(rt: HostRuntime) {
 }
 
 #[test]
-fn runs_of_a_raster(rt: HostRuntime) {
+fn runs_of_a_raster(rt: HostRuntime) -> Result<(), Fail> {
     let mut cells = [
         Class::Open,
         Class::Strip,
@@ -99,7 +92,7 @@ fn runs_of_a_raster(rt: HostRuntime) {
     ];
     let mut out = [Class::Void; 2];
     let mut none: [Class; 0] = [];
-    let mut sheet = Raster::over(2, 3, &mut cells);
+    let mut sheet = Raster::new(2, 3, &mut cells)?;
     assert_eq!(rt; sheet.read(1, 1, &mut out), Ok(()));
     assert_eq!(rt; sheet.read(1, 2, &mut out), Err(Refusal::Outside));
     assert_eq!(rt; sheet.read(2, 0, &mut out), Err(Refusal::Outside));
@@ -111,16 +104,19 @@ fn runs_of_a_raster(rt: HostRuntime) {
     assert_eq!(rt; cells[1], Class::Peat);
     assert_eq!(rt; cells[2], Class::Kept);
     assert_eq!(rt; cells[3], Class::Wet);
+    Ok(())
 }
 
 #[test]
-fn runs_of_a_packed_sheet(rt: HostRuntime) {
+fn runs_of_a_packed_sheet(rt: HostRuntime) -> Result<(), Fail> {
     let void = Height::void();
-    let marks = [height(300), height(-1), void];
+    let high = Height::new(300).ok_or(Refusal::Size)?;
+    let low = Height::new(-1).ok_or(Refusal::Size)?;
+    let marks = [high, low, void];
     let mut bytes = [0; 6];
     let mut out = [void; 2];
     let mut none: [Height; 0] = [];
-    let mut sheet = Packed::over(1, 3, &void, &mut bytes);
+    let mut sheet = Packed::new(1, 3, &void, &mut bytes)?;
     assert_eq!(rt; sheet.write(0, 1, &marks), Err(Refusal::Outside));
     assert_eq!(rt; sheet.write(0, 0, &marks), Ok(()));
     assert_eq!(rt; sheet.read(0, 1, &mut out), Ok(()));
@@ -130,10 +126,11 @@ fn runs_of_a_packed_sheet(rt: HostRuntime) {
     assert_eq!(rt; out[0].decimetres(), Some(-1));
     assert_eq!(rt; out[1].decimetres(), None);
     assert_eq!(rt; bytes, [0x01, 0x2C, 0xFF, 0xFF, 0x80, 0x00]);
+    Ok(())
 }
 
 #[test]
-fn copies_between_sheets(rt: HostRuntime) {
+fn copies_between_sheets(rt: HostRuntime) -> Result<(), Fail> {
     let first = Place { row: 0, col: 0 };
     let second = Place { row: 0, col: 1 };
     let last = Place { row: 1, col: 1 };
@@ -146,8 +143,8 @@ fn copies_between_sheets(rt: HostRuntime) {
     let mut bytes = [0, 7, 0, 7, 0, 7, 0, 7, 0, 7, 0, 7];
     let mut scratch = [void; 2];
     let mut short = [void; 1];
-    let mut raster = Raster::over(2, 2, &mut cells);
-    let mut packed = Packed::over(2, 3, &void, &mut bytes);
+    let mut raster = Raster::new(2, 2, &mut cells)?;
+    let mut packed = Packed::new(2, 3, &void, &mut bytes)?;
     assert_eq!(rt;
         copy_rectangle(&raster, first, &mut packed, last, square, &mut scratch),
         Err(Refusal::Outside)
@@ -176,4 +173,5 @@ fn copies_between_sheets(rt: HostRuntime) {
     assert_eq!(rt; cells[1], Class::Wet);
     assert_eq!(rt; cells[2], Class::Moist);
     assert_eq!(rt; bytes, [0, 7, 0, 1, 0, 2, 0, 7, 0, 3, 0, 4]);
+    Ok(())
 }

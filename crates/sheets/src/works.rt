@@ -4,13 +4,13 @@ ghost use Rattle.marks.specs.Refusals.{told};
 ghost use Rattle.sheets.specs.Grids.{Grid};
 ghost use Rattle.sheets.specs.Layouts.{flat, packed, make_told};
 
-use crate::layout::check_sides;
 use crate::packed::Packed;
 use crate::raster::Raster;
 use crate::sheet::WritableSheet;
+use crate::sides::Sides;
 use marks::{CodedMark, Mark, Refusal};
 
-// Work that is done on a sheet, whatever the sheet is made of.
+// Work that is done on a sheet, whatever the sheet is made of. A trait, since no closure can be generic over the sheet.
 pub trait Work<M: Mark> {
     // What the work does: itself and the sheet's meaning before, the meaning and itself after.
     ghost does: { Self → Grid M → Grid M → Self → Type 0 };
@@ -32,11 +32,8 @@ pub fn on_raster<M: Mark, W: Work<M>>(
     ensures told { told result ≡ make_told rows cols (length cells.old) (rows * cols) tt }
     ensures leaves { MatchResult result (λ _. W.Work.does work.old (flat rows cols cells.old) (flat rows cols cells.new) work.new) (λ _. (cells.new ≡ cells.old) × (work.new ≡ work.old)) }
 {
-    check_sides(rows, cols)?;
-    if cells.len() != rows * cols {
-        return Err(Refusal::WrongLength);
-    }
-    let mut sheet = Raster::over(rows, cols, cells);
+    let sides = Sides::fitting(rows, cols, cells.len(), 1)?;
+    let mut sheet = Raster::over(sides, cells);
     work.run(&mut sheet);
     Ok(())
 }
@@ -51,12 +48,8 @@ pub fn on_packed<M: CodedMark, W: Work<M>>(
     ensures told { told result ≡ make_told rows cols (length bytes.old) (2 * (rows * cols)) tt }
     ensures leaves { MatchResult result (λ _. W.Work.does work.old (packed M.CodedMark.decoded rows cols bytes.old) (packed M.CodedMark.decoded rows cols bytes.new) work.new) (λ _. (bytes.new ≡ bytes.old) × (work.new ≡ work.old)) }
 {
-    check_sides(rows, cols)?;
-    if bytes.len() != 2 * (rows * cols) {
-        return Err(Refusal::WrongLength);
-    }
-    let void = M::void();
-    let mut sheet = Packed::over(rows, cols, &void, bytes);
+    let sides = Sides::fitting(rows, cols, bytes.len(), 2)?;
+    let mut sheet = Packed::<M>::over(sides, bytes);
     work.run(&mut sheet);
     Ok(())
 }

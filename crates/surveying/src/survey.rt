@@ -18,7 +18,7 @@ use crate::linking::link_at;
 use crate::scratch::SurveyScratch;
 use flood::Entry;
 use marks::Refusal;
-use sheets::Sheet;
+use sheets::{Sheet, Sides};
 use tables::{MouthRecord, PassRecord, tables_short};
 use tiles::{Block, CutList};
 
@@ -26,7 +26,7 @@ use tiles::{Block, CutList};
 fn differs<S: Sheet>(cuts: &CutList, source: &S) -> bool
     ensures { result ≡ other_sides (plan_of cuts.now) (S.Sheet.meaning source.now) }
 {
-    let (rows, cols) = source.sides();
+    let Sides { rows, cols } = source.sides();
     let (cut_rows, cut_cols) = cuts.sides();
     !(rows == cut_rows && cols == cut_cols)
 }

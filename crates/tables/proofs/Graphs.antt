@@ -5,12 +5,12 @@ use Rattle.std.proofs.lemmas.Bool.{and_from, cases_lt, cases_Bool}
 use Rattle.marks.specs.Orders.{OrderLaws, highest}
 use Rattle.flood.specs.Grounds.{Crosses, LeastWorst}
 use Rattle.sheets.specs.declared.copies.Place.{Place}
-use Rattle.sheets.specs.Grids.{Grid, mark}
+use Rattle.sheets.specs.Grids.{Grid, mark, at_edge}
 use Rattle.terrain.specs.Cells.{OnEdge}
-use Rattle.terrain.specs.CellGrounds.{at_edge}
 use Rattle.terrain.specs.Terrains.{Kind, cell_at, mark_or, sheet_terrain}
 use Rattle.terrain.specs.Ways.{IsSill}
-use Rattle.terrain.proofs.Bridges.{edge_on, on_edge, highest_swap}
+use Rattle.terrain.proofs.Bridges.{edge_on, on_edge}
+use Rattle.terrain.proofs.Marks.{highest_swap}
 use Rattle.tiles.specs.Plans.{Plan, Lawful, tiles, tile_of}
 use Rattle.tiles.specs.Mouths.{mouths, mouth_base, pass_base}
 use Rattle.tiles.proofs.Tilings.{tile_exists}

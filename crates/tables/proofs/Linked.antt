@@ -9,7 +9,7 @@ use Rattle.std.proofs.lemmas.Bool.{and_parts, and_from, cases_lt, cases_eq, case
 use Rattle.flood.specs.Grounds.{Laws}
 use Rattle.sheets.specs.declared.copies.Place.{Place}
 use Rattle.terrain.specs.Cells.{place, Touches, InSheet}
-use Rattle.terrain.specs.CellGrounds.{at_edge}
+use Rattle.sheets.specs.Grids.{at_edge}
 use Rattle.terrain.specs.Terrains.{Kind}
 use Rattle.terrain.proofs.Bridges.{edge_on, on_edge}
 use Rattle.tiles.specs.Plans.{Plan, Lawful, tiles, tile_of, tile_at, holds}

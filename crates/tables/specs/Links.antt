@@ -6,7 +6,7 @@ use Rattle.marks.specs.Orders.{highest}
 use Rattle.flood.specs.Grounds.{Graph, graph, Crosses}
 use Rattle.sheets.specs.declared.copies.Place.{Place}
 use Rattle.terrain.specs.Cells.{place, place_of, Touches, OnEdge}
-use Rattle.terrain.specs.CellGrounds.{at_edge}
+use Rattle.sheets.specs.Grids.{at_edge}
 use Rattle.terrain.specs.Terrains.{Kind}
 use Rattle.tiles.specs.Plans.{Plan, tiles, tile_of}
 use Rattle.tiles.specs.Mouths.{mouths, mouth_base, pass_base, tile_mouths, mouth_number}

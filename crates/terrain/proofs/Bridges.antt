@@ -10,27 +10,19 @@ use Rattle.flood.specs.Grounds.{Graph, Crosses, Route, Found, Least, Drains, Dry
 use Rattle.flood.specs.Grounds as grounds
 use Rattle.sheets.specs.declared.copies.Place.{Place}
 use Rattle.terrain.specs.Cells.{place, Touches, InSheet, OnEdge, node_of, place_of}
-use Rattle.terrain.specs.CellGrounds.{at_edge, between, cell_drain, cell_graph}
+use Rattle.sheets.specs.Grids.{at_edge}
+use Rattle.terrain.specs.CellGrounds.{between, cell_drain, cell_graph}
 use Rattle.terrain.specs.Terrains.{Kind, mark_or, sheet_terrain}
 use Rattle.terrain.specs.Levels.{IsOrigin}
 use Rattle.terrain.specs.Ways.{Terrain, AtMost, Walk, Way, worst, last, IsSill}
 use Rattle.terrain.specs.Filled.{Lists, HasWay}
-use Rattle.terrain.proofs.Marks.{le_self}
+use Rattle.terrain.proofs.Marks.{le_self, highest_swap}
 use Rattle.terrain.proofs.Walks.{first_worst, from_list, open_last}
 use Rattle.terrain.specs.CellLaws.{some_none, some_same, place_in, node_place, node_in, place_node, crossing_joins, joins_crossing}
 
 -- orders
 
 module _ {M : Type 0} {leb : M → M → Bool} (O : OrderLaws leb) where
-  pub highest_swap : (a b : M) → highest leb a b ≡ highest leb b a
-  highest_swap a b = go (leb a b) (leb b a) refl refl
-    where
-      go : (x y : Bool) → leb a b ≡ x → leb b a ≡ y → cond x b a ≡ cond y a b
-      go true true p q = O.antisymmetric b a q p
-      go true false p q = refl
-      go false true p q = refl
-      go false false p q = O.antisymmetric a b (O.total b a q) (O.total a b p)
-
   -- a mark that is at most k adds nothing to k
   highest_under : (a b k : M) → leb b k ≡ true → highest leb (highest leb a b) k ≡ highest leb a k
   highest_under a b k h = go (leb a b) refl

@@ -1,29 +1,25 @@
 -- A sheet that is read, flooded, raised and written is filled. Assumes nothing.
-use Rattle.std.proofs.Common.{◌≡◌, ℕ, ◌+◌, ◌*◌, ◌<◌, Bool, true, false, cond, not, eqb, ltb, List, [], ◌∷◌, length, get_or, Some, None, Ok, Err, Option, Result, sym, refl, ap, ◌∙◌, subst, ap₂, ⊎_elim, zero-add, arith}
-use Rattle.std.proofs.lemmas.Bool.{cases_Bool, or_from, le-ltb, eq-eqb}
+use Rattle.std.proofs.Common.{◌≡◌, ℕ, ◌+◌, ◌*◌, ◌<◌, Bool, true, false, cond, List, [], ◌∷◌, length, get_or, Some, None, Option, sym, refl, ap, ◌∙◌, subst, ap₂, ⊎_elim, zero-add, arith}
+use Rattle.std.proofs.lemmas.Bool.{cases_Bool}
 use Rattle.marks.specs.Orders.{OrderLaws, highest}
 use Rattle.sheets.specs.declared.copies.Place.{Place}
 use Rattle.sheets.specs.declared.copies.Extent.{Extent}
-use Rattle.marks.specs.Refusals.{number, placed, Told, told, accepted, refused, checked}
-use Rattle.marks.specs.declared.refusal.Refusal.{Refusal}
-use Rattle.terrain.specs.declared.scratch.Scratch.{Scratch}
+use Rattle.marks.specs.Refusals.{accepted}
 use Rattle.sheets.specs.Copies.{Copied, leaving, broken_rows}
-use Rattle.sheets.specs.Grids.{mark, Grid, Side, Sided, at}
-use Rattle.sheets.specs.Layouts.{flat, bad_side, bad_sides}
-use Rattle.sheets.proofs.Checks.{passed, past, passes, fails, not_refused}
-use Rattle.flood.specs.Calls.{short}
+use Rattle.sheets.specs.Grids.{mark, Grid, at}
+use Rattle.sheets.specs.Layouts.{flat}
+use Rattle.sheets.proofs.Checks.{passed}
 use Rattle.sheets.proofs.Marks.{at-get_or, one_mark}
 use Rattle.terrain.specs.Blocks.{HoldsBlock, misfits, read_block_told}
 use Rattle.terrain.specs.Cells.{place, InSheet, node_of, place_of}
 use Rattle.terrain.specs.CellLaws.{place_in, node_in, place_node, node_place}
-use Rattle.terrain.specs.Fills.{other_sides, scratch_short, fill_told, dead_in, raised_from, raised, Finished, FilledSheet, SillsFill, ScratchLeft, size}
+use Rattle.terrain.specs.Fills.{dead_in, raised_from, raised, Finished, FilledSheet, SillsFill, size}
 use Rattle.terrain.specs.Filled.{HasWay}
-use Rattle.terrain.specs.Levels.{LevelsAreSills, levels_told, new_mark, rises, Raised, risen}
+use Rattle.terrain.specs.Levels.{LevelsAreSills, new_mark, rises, Raised, risen}
 use Rattle.terrain.specs.Terrains.{Kind, cell_at, mark_or, sheet_terrain}
 use Rattle.terrain.specs.Ways.{Terrain, Walk, Way, worst, last, IsSill}
 use Rattle.terrain.proofs.Marks.{le_self}
 use Rattle.terrain.proofs.Raises.{count_same}
-use Rattle.terrain.proofs.Rows.{refused_by}
 use Rattle.terrain.proofs.Bridges.{cells, cells_all, column_way}
 use Rattle.terrain.proofs.Surfaces.{sills_filled, filled_sills}
 
@@ -147,19 +143,6 @@ done_from κ g h h' xs ys ls rows cols is-rows is-cols long same_long read level
   wrote = subst (λ n. Copied (flat g.rows n ys) (place 0 0) h h' (place 0 0) g.rows n) is-cols (subst (λ n. Copied (flat n cols ys) (place 0 0) h h' (place 0 0) n cols) is-rows wrote);
 }
 
--- a sheet's cells can be flooded
-good_side : (n : ℕ) → Side n → bad_side n ≡ false
-good_side n s = or_from (ltb n 1) (ltb 2048 n) (le-ltb n 1 s.0) (le-ltb 2048 n s.1)
-
-pub floods : {M X Y : Type 0} (g : Grid M) (rows cols len : ℕ) (ls : List (Option M)) (os : List (Option ℕ)) (hs : List X) (m p : ℕ) → Sided g → rows ≡ g.rows → cols ≡ g.cols → len ≡ size g → short (size g) ls os hs ≡ false → refused m p ≡ levels_told rows cols len ls os hs → Y
-floods g rows cols len ls os hs m p sided is-rows is-cols long room e =
-    let sides : bad_sides rows cols ≡ false = or_from (bad_side rows) (bad_side cols) (ap bad_side is-rows ∙ good_side g.rows sided.rows) (ap bad_side is-cols ∙ good_side g.cols sided.cols) in
-    let same : rows * cols ≡ size g = (λ i. is-rows i * is-cols i) in
-    let fits : not (eqb len (rows * cols)) ≡ false = ap not (eq-eqb len (rows * cols) (long ∙ sym same)) in
-    let rest : List (Bool × ℕ) = (short (rows * cols) ls os hs, 5) ∷ [] in
-    let third = past (not (eqb len (rows * cols))) 4 rest tt (refused m p) fits (past (bad_sides rows cols) 1 ((not (eqb len (rows * cols)), 4) ∷ rest) tt (refused m p) sides e) in
-    absurd (not_refused m p (tt {0}) (past (short (rows * cols) ls os hs) 5 [] tt (refused m p) (ap (λ n. short n ls os hs) same ∙ room) third))
-
 -- an accepted read met no dead cell
 pub none_dead : {M : Type 0} (g : Grid M) (rows cols len : ℕ) → rows ≡ g.rows → cols ≡ g.cols → accepted (tt {0}) ≡ read_block_told g (place 0 0) (record { height = rows; width = cols }) len → dead_in g ≡ false
 none_dead g rows cols len is-rows is-cols e =
@@ -168,19 +151,3 @@ none_dead g rows cols len is-rows is-cols e =
     let first = passed (leaving g (place 0 0) x) 6 ((misfits x len, 4) ∷ (gone, 7) ∷ []) tt tt e in
     let second = passed (misfits x len) 4 ((gone, 7) ∷ []) tt tt first.1 in
     sym (λ i. broken_rows g (place 0 0) (is-cols i) (is-rows i)) ∙ (passed gone 7 [] tt tt second.1).0
-
--- scratch after the work
-pub scratch_left : {M : Type 0} (s s' : Scratch M) (b : Bool) (n : ℕ) (r : Result ℕ Refusal) → told r ≡ checked ((b, 7) ∷ []) n → ScratchLeft s s' r
-scratch_left s s' b n (Ok x) e = tt
-scratch_left s s' b n (Err r) e = λ other. absurd (other (refused_by b (number r) (placed r) 7 n e))
-
--- what filling tells, check by check
-module _ {M : Type 0} (κ : Kind M) (g h h' : Grid M) (s : Scratch M) where
-  pub fill_differs : true ≡ other_sides g h → refused 6 0 ≡ fill_told κ g h h' s
-  fill_differs e = fails (other_sides g h) 6 ((scratch_short (size g) s, 5) ∷ (dead_in g, 7) ∷ []) (raised κ g h') (sym e)
-
-  pub fill_goes : (n : ℕ) (t : Told ℕ) → false ≡ other_sides g h → n ≡ size g → false ≡ scratch_short n s → t ≡ checked ((dead_in g, 7) ∷ []) (raised κ g h') → t ≡ fill_told κ g h h' s
-  fill_goes n t e is f k = passes (other_sides g h) 6 ((scratch_short (size g) s, 5) ∷ (dead_in g, 7) ∷ []) (raised κ g h') t (sym e) (passes (scratch_short (size g) s) 5 ((dead_in g, 7) ∷ []) (raised κ g h') t (sym (f ∙ ap (λ l. scratch_short l s) is)) k)
-
-  pub fill_short : (n : ℕ) → false ≡ other_sides g h → n ≡ size g → true ≡ scratch_short n s → refused 5 0 ≡ fill_told κ g h h' s
-  fill_short n e is f = passes (other_sides g h) 6 ((scratch_short (size g) s, 5) ∷ (dead_in g, 7) ∷ []) (raised κ g h') (refused 5 0) (sym e) (fails (scratch_short (size g) s) 5 ((dead_in g, 7) ∷ []) (raised κ g h') (sym (f ∙ ap (λ l. scratch_short l s) is)))

@@ -1,5 +1,6 @@
 -- The order of marks, and the higher of two. Assumes nothing.
-use Rattle.std.proofs.Common.{◌≡◌, Bool, true, false, cond, refl}
+use Rattle.std.proofs.Common.{◌≡◌, ℕ, ◌<◌, ◌≤◌, Bool, true, false, cond, min, max, refl, sym, ap, ◌∙◌, ap₂, ⊎_elim, arith}
+use Rattle.std.proofs.lemmas.Bool.{cases_lt}
 use Rattle.marks.specs.Orders.{OrderLaws, highest}
 
 module _ {M : Type 0} {leb : M → M → Bool} (O : OrderLaws leb) where
@@ -36,3 +37,25 @@ module _ {M : Type 0} {leb : M → M → Bool} (O : OrderLaws leb) where
 
   pub higher_le_right : (a b c : M) → leb (highest leb a b) c ≡ true → leb b c ≡ true
   higher_le_right a b c h = O.transitive _ _ _ (le_higher_right a b) h
+
+  pub highest_swap : (a b : M) → highest leb a b ≡ highest leb b a
+  highest_swap a b = go (leb a b) (leb b a) refl refl
+    where
+      go : (x y : Bool) → leb a b ≡ x → leb b a ≡ y → cond x b a ≡ cond y a b
+      go true true p q = O.antisymmetric b a q p
+      go true false p q = refl
+      go false true p q = refl
+      go false false p q = O.antisymmetric a b (O.total b a q) (O.total a b p)
+
+-- the higher of the marks of two nodes, by the marks of all, that of the lower number first
+pub higher_by : {M : Type 0} {leb : M → M → Bool} (O : OrderLaws leb) (f : ℕ → M) (u v : ℕ) (x y : M) → x ≡ f u → y ≡ f v → highest leb x y ≡ highest leb (f (min u v)) (f (max u v))
+higher_by {leb = leb} O f u v x y p q = ap₂ (highest leb) p q ∙ ⊎_elim
+    (λ (h : u < v).
+    let low : min u v ≡ u = omega arith in
+    let high : max u v ≡ v = omega arith in
+    ap₂ (highest leb) (ap f (sym low)) (ap f (sym high)))
+    (λ (h : v ≤ u).
+    let low : min u v ≡ v = omega arith in
+    let high : max u v ≡ u = omega arith in
+    highest_swap O (f u) (f v) ∙ ap₂ (highest leb) (ap f (sym low)) (ap f (sym high)))
+    (cases_lt u v)

@@ -1,13 +1,10 @@
 -- The ground of a sheet's cells: they are its nodes, in reading order. Assumes nothing.
-use Rattle.std.specs.Prelude.{ℕ, ◌+◌, ◌*◌, ◌/◌, ◌%◌, min, max, Bool, cond, ◌||◌, List, [], map, Some, None, Option, ◌==◌, nat_lt, slice_index_or}
+use Rattle.std.specs.Prelude.{ℕ, ◌*◌, ◌/◌, ◌%◌, min, max, Bool, cond, List, [], map, Some, None, Option, nat_lt, slice_index_or}
 use Rattle.marks.specs.Orders.{highest}
+use Rattle.sheets.specs.Grids.{at_edge}
 use Rattle.flood.specs.Grounds.{Graph, graph}
 use Rattle.std.specs.List.{range_with_len}
 use Rattle.terrain.specs.Neighbours.{degree, far}
-
--- the cell in row i and column j lies on the edge of so many rows and columns
-abbrev pub at_edge : ℕ → ℕ → ℕ → ℕ → Bool
-at_edge rows cols i j = (i == 0 || i + 1 == rows) || (j == 0 || j + 1 == cols)
 
 -- the level between two cells is the higher of their marks
 abbrev pub between : {M : Type 0} → (M → M → Bool) → M → List M → ℕ → ℕ → M

@@ -12,9 +12,10 @@ use Rattle.std.proofs.lemmas.List.FromFn.{length-map-range_with_len, get_or-map-
 use Rattle.std.proofs.lemmas.Bool.{cases_lt}
 use Rattle.flood.specs.Grounds.{Laws}
 use Rattle.sheets.specs.declared.copies.Place.{Place}
+use Rattle.sheets.specs.Grids.{at_edge}
 use Rattle.terrain.specs.Cells.{place, Touches, InSheet, node_of, place_of}
 use Rattle.terrain.specs.Neighbours.{span, degree, neighbour, far}
-use Rattle.terrain.specs.CellGrounds.{at_edge, between, crossing_at, cell_crossings, cell_drain}
+use Rattle.terrain.specs.CellGrounds.{between, crossing_at, cell_crossings, cell_drain}
 use Rattle.terrain.specs.NeighbourLaws.{block, few, neighbour_touches, touch_neighbour}
 
 pub some_none : {A : Type 0} (x : A) → None ≢ Some x

@@ -1,14 +1,14 @@
 // Rectangles of a sheet, read and written at once.
 ghost use Rattle.std.specs.Prelude.{◌≡◌, ℕ, ◌+◌, ◌*◌, ◌≤◌, false, [], ◌∷◌, length};
 ghost use Rattle.marks.specs.Refusals.{told, accepted, checked};
-ghost use Rattle.sheets.specs.Copies.{broken_rows, Copied};
+ghost use Rattle.sheets.specs.Copies.{exceeds, broken_rows, Copied};
 ghost use Rattle.sheets.specs.Grids.{Grid};
 ghost use Rattle.sheets.specs.Layouts.{flat};
-ghost use Rattle.terrain.specs.Blocks.{HoldsBlock, read_block_told, ReadBlockLeaves, write_block_told, WriteBlockLeaves};
+ghost use Rattle.terrain.specs.Blocks.{HoldsBlock, misfits, read_block_told, ReadBlockLeaves, write_block_told, WriteBlockLeaves};
 ghost use Rattle.terrain.specs.Cells.{place};
 
 use marks::Refusal;
-use sheets::{Extent, Place, Sheet, WritableSheet, leaves};
+use sheets::{Extent, Place, Sheet, Sides, WritableSheet};
 
 // Reads a rectangle of a sheet into a slice, row by row.
 pub fn read_block<S: Sheet>(
@@ -20,14 +20,21 @@ pub fn read_block<S: Sheet>(
     ensures told { told result ≡ read_block_told (S.Sheet.meaning source.now) from extent (length marks.old) }
     ensures leaves { ReadBlockLeaves (S.Sheet.meaning source.now) from extent marks.old marks.new result }
 {
-    let (rows, cols) = source.sides();
-    if leaves(from, extent, rows, cols) {
+    check_block(source.sides(), from, extent, marks.len())?;
+    read_rows(source, from, extent, marks)
+}
+
+// Refuses a rectangle that leaves the sides, or that has not so many cells.
+fn check_block(sides: Sides, place: Place, extent: Extent, len: usize) -> Result<(), Refusal>
+    ensures { told result ≡ checked ((exceeds sides.rows sides.cols place extent, 6) ∷ (misfits extent len, 4) ∷ []) tt }
+{
+    if sides.exceeded_by(place, extent) {
         return Err(Refusal::Outside);
     }
-    if marks.len() != extent.height * extent.width {
+    if len != extent.height * extent.width {
         return Err(Refusal::WrongLength);
     }
-    read_rows(source, from, extent, marks)
+    Ok(())
 }
 
 // Reads a rectangle that lies in the sheet into a slice of its size.
@@ -43,6 +50,7 @@ fn read_rows<S: Sheet>(
     ensures told { told result ≡ checked ((broken_rows (S.Sheet.meaning source.now) from extent.width extent.height, 7) ∷ []) tt }
     ensures leaves { ReadBlockLeaves (S.Sheet.meaning source.now) from extent marks.old marks.new result }
 {
+    // No `chunks_exact_mut`: it wants a width of at least 1, and a rectangle may have none.
     for i in 0..extent.height {
         let start = i * extent.width;
         source.read(
@@ -65,13 +73,7 @@ pub fn write_block<T: WritableSheet>(
     ensures told { told result ≡ write_block_told (T.Sheet.meaning target.old) to extent (length marks.now) }
     ensures leaves { WriteBlockLeaves (T.Sheet.meaning target.old) (T.Sheet.meaning target.new) to extent marks.now result }
 {
-    let (rows, cols) = target.sides();
-    if leaves(to, extent, rows, cols) {
-        return Err(Refusal::Outside);
-    }
-    if marks.len() != extent.height * extent.width {
-        return Err(Refusal::WrongLength);
-    }
+    check_block(target.sides(), to, extent, marks.len())?;
     write_rows(target, to, extent, marks)
 }
 
@@ -89,6 +91,7 @@ fn write_rows<T: WritableSheet>(
     ensures told { told result ≡ accepted tt }
     ensures leaves { Copied (flat extent.height extent.width marks.now) (place 0 0) (T.Sheet.meaning target.old) (T.Sheet.meaning target.new) to extent.height extent.width }
 {
+    // No `chunks_exact`, as above.
     for i in 0..extent.height {
         let start = i * extent.width;
         target.write(to.row + i, to.col, &marks[start..start + extent.width])?;

@@ -1,7 +1,6 @@
 // A whole sheet filled at once.
-ghost use Rattle.std.specs.Prelude.{◌≡◌, ℕ, ◌*◌, ◌<◌, ◌≤◌, false, not, ◌&&◌, [], ◌∷◌, length};
+ghost use Rattle.std.specs.Prelude.{◌≡◌, ℕ, ◌≤◌, false, not, ◌&&◌, [], ◌∷◌, length};
 ghost use Rattle.marks.specs.Refusals.{told, checked};
-ghost use Rattle.flood.specs.Calls.{short};
 ghost use Rattle.terrain.specs.Fills.{other_sides, size, scratch_short, dead_in, raised, fill_told, FillLeaves, SameLoans, ScratchLeft, SillsFill};
 ghost use Rattle.terrain.specs.Levels.{new_mark, risen, Raised};
 ghost use Rattle.terrain.specs.Terrains.{kind_of};
@@ -9,9 +8,8 @@ ghost use Rattle.terrain.specs.Terrains.{kind_of};
 use crate::blocks::{read_block, write_block};
 use crate::levels::flood_cells;
 use crate::scratch::Scratch;
-use flood::Entry;
 use marks::{Mark, Order, Refusal};
-use sheets::{Extent, Place, Sheet, WritableSheet};
+use sheets::{Extent, Place, Sheet, Sides, WritableSheet};
 
 // Whether a slice lent to work in has fewer than n places.
 pub fn is_short<M>(scratch: &Scratch<M>, n: usize) -> bool
@@ -23,28 +21,14 @@ pub fn is_short<M>(scratch: &Scratch<M>, n: usize) -> bool
         || scratch.heap.len() < n
 }
 
-// Whether two sheets have different sides.
-fn differ<S: Sheet, T: Sheet<Mark = S::Mark>>(source: &S, target: &T) -> bool
-    ensures { result ≡ other_sides (S.Sheet.meaning source.now) (T.Sheet.meaning target.now) }
-{
-    let (rows, cols) = source.sides();
-    let (target_rows, target_cols) = target.sides();
-    !(rows == target_rows && cols == target_cols)
-}
-
 // A cell's new mark: void stays, and any other cell gets its level.
 fn filled_mark<M: Mark>(mark: M, level: Option<M>) -> M
     ensures { result ≡ new_mark (kind_of M.Order M.Mark.lowest) mark level }
 {
-    match level {
-        None => mark,
-        Some(level) => {
-            if mark.at_most(&M::void()) {
-                mark
-            } else {
-                level
-            }
-        }
+    if mark.at_most(&M::void()) {
+        mark
+    } else {
+        level.unwrap_or(mark)
     }
 }
 
@@ -62,34 +46,37 @@ fn raise<M: Mark>(marks: &mut [M], levels: &[Option<M>]) -> usize
     ensures count { result ≡ risen (kind_of M.Order M.Mark.lowest) marks.old levels.now (length marks.old) }
 {
     let mut raised = 0;
-    for k in 0..marks.len() {
-        let mark = marks[k];
-        let new = filled_mark(mark, levels[k]);
-        if has_risen(mark, new) {
+    // No `zip(levels)`: of a slice that is written through it, an invariant cannot say what it holds.
+    for (k, mark) in marks.iter_mut().enumerate() {
+        let new = filled_mark(*mark, levels[k]);
+        if has_risen(*mark, new) {
             raised += 1;
         }
-        marks[k] = new;
+        *mark = new;
     }
     raised
 }
 
-// Fills a sheet into one of the same sides, with slices of its size.
+// Fills a sheet into one of the same sides, with slices that are long enough.
 fn fill<S: Sheet, T: WritableSheet<Mark = S::Mark>>(
     source: &S,
     target: &mut T,
-    marks: &mut [S::Mark],
-    levels: &mut [Option<S::Mark>],
-    origins: &mut [Option<usize>],
-    heap: &mut [Entry<S::Mark>],
+    scratch: Scratch<S::Mark>,
 ) -> Result<usize, Refusal>
     requires sides { other_sides (S.Sheet.meaning source.now) (T.Sheet.meaning target.old) ≡ false }
-    requires marks { length marks.old ≡ size (S.Sheet.meaning source.now) }
-    requires room { short (size (S.Sheet.meaning source.now)) levels.old origins.old heap.old ≡ false }
+    requires marks { length scratch.marks.now ≡ size (S.Sheet.meaning source.now) }
+    requires room { scratch_short (size (S.Sheet.meaning source.now)) scratch ≡ false }
     ensures loans { T.WritableSheet.loans target.new ≡ T.WritableSheet.loans target.old }
     ensures told { told result ≡ checked ((dead_in (S.Sheet.meaning source.now), 7) ∷ []) (raised (kind_of S.Mark.Order S.Mark.Mark.lowest) (S.Sheet.meaning source.now) (T.Sheet.meaning target.new)) }
     ensures leaves { FillLeaves (kind_of S.Mark.Order S.Mark.Mark.lowest) (S.Sheet.meaning source.now) (T.Sheet.meaning target.old) (T.Sheet.meaning target.new) result }
 {
-    let (rows, cols) = source.sides();
+    let Scratch {
+        marks,
+        levels,
+        origins,
+        heap,
+    } = scratch;
+    let Sides { rows, cols } = source.sides();
     let first = Place { row: 0, col: 0 };
     let whole = Extent {
         height: rows,
@@ -115,11 +102,11 @@ pub fn fill_sheet<S: Sheet, T: WritableSheet<Mark = S::Mark>>(
     ensures scratch { ScratchLeft scratch.old scratch.new result }
     ensures surface { SillsFill (kind_of S.Mark.Order S.Mark.Mark.lowest) (S.Sheet.meaning source.now) }
 {
-    if differ(source, target) {
+    let sides = source.sides();
+    if sides != target.sides() {
         return Err(Refusal::Outside);
     }
-    let (rows, cols) = source.sides();
-    let cells = rows * cols;
+    let cells = sides.cells();
     if is_short(scratch, cells) {
         return Err(Refusal::ScratchShort);
     }
@@ -129,5 +116,11 @@ pub fn fill_sheet<S: Sheet, T: WritableSheet<Mark = S::Mark>>(
         origins,
         heap,
     } = scratch;
-    fill(source, target, &mut marks[0..cells], levels, origins, heap)
+    let scratch = Scratch {
+        marks: &mut marks[..cells],
+        levels,
+        origins,
+        heap,
+    };
+    fill(source, target, scratch)
 }

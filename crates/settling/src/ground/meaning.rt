@@ -2,20 +2,19 @@
 ghost use Rattle.std.specs.Prelude.{◌≡◌, ℕ, ◌+◌, ◌-◌, ◌<◌, ◌≤◌, ◌&&◌, length, take, drop, if◌then◌else◌, None, nat_le, nat_lt};
 ghost use Rattle.std.specs.List.{slice_get};
 ghost use Rattle.terrain.specs.Cells.{place as cell_at};
-ghost use Rattle.terrain.specs.CellGrounds.{at_edge};
 ghost use Rattle.terrain.specs.Terrains.{kind_of};
 ghost use Rattle.tiles.specs.Plans.{plan_of, tiles};
 ghost use Rattle.tiles.specs.Mouths.{mouths as all_mouths, passes as all_passes, mouth_base, pass_base, tile_mouths};
 ghost use Rattle.tiles.proofs.Tilings.{lawful_plan};
 ghost use Rattle.tables.specs.Records.{tables};
-ghost use Rattle.tables.specs.Links.{around, seam_level, seam_at, far_end, mouth_crossings, mouth_drain};
+ghost use Rattle.tables.specs.Links.{around, seam_at, far_end, mouth_crossings, mouth_drain};
 ghost use Rattle.tables.proofs.Linked.{mouth_laws};
 ghost use Rattle.settling.specs.Grounds.{Stands};
 
 use crate::ground::MouthGround;
 use flood::Ground;
 use marks::{Mark, higher};
-use sheets::Place;
+use sheets::{Place, Sides};
 use std::ops::Range;
 use tables::{MouthRecord, PassRecord};
 use tiles::{CutList, Mouth};
@@ -50,21 +49,13 @@ impl<'a, 'b, M: Mark> Ground for MouthGround<'a, 'b, M> {
     fn drain(&self, node: usize) -> Option<M> {
         let mouth = self.cuts.mouth(node)?;
         let (rows, cols) = self.cuts.sides();
-        if on_edge(rows, cols, mouth.row, mouth.col) {
+        if (Sides { rows, cols }).on_edge(mouth.row, mouth.col) {
             let mouths = self.mouths;
             Some(mouths[node].mark)
         } else {
             None
         }
     }
-}
-
-// Whether a cell lies on the edge of so many rows and columns.
-fn on_edge(rows: usize, cols: usize, row: usize, col: usize) -> bool
-    requires { (row < rows) × (col < cols) }
-    ensures { result ≡ at_edge rows cols row col }
-{
-    row == 0 || row + 1 == rows || col == 0 || col + 1 == cols
 }
 
 // Of the nine cells around a cell, row by row, itself among them, one by its place; none past the edge.
@@ -82,17 +73,6 @@ fn around(rows: usize, cols: usize, row: usize, col: usize, k: usize) -> Option<
     } else {
         None
     }
-}
-
-// The level of the link between two mouths over a seam. The lower number comes first, so that both ways the level is
-// one by its form.
-fn seam_level<M: Mark>(mouths: &[MouthRecord<M>], node: usize, far: usize) -> M
-    requires { (node < length mouths.now) × (far < length mouths.now) }
-    ensures { result ≡ seam_level (kind_of M.Order M.Mark.lowest) mouths.now node far }
-{
-    let first = mouths[node.min(far)].mark;
-    let second = mouths[node.max(far)].mark;
-    higher(first, second)
 }
 
 // The link from a mouth over a seam to one of the nine cells around it.
@@ -115,7 +95,7 @@ fn seam_link<M: Mark>(
         return None;
     }
     let far = cuts.mouth_number(cell.row, cell.col)?;
-    Some((far, seam_level(mouths, node, far)))
+    Some((far, higher(mouths[node].mark, mouths[far].mark)))
 }
 
 // The numbers of a tile's mouths.

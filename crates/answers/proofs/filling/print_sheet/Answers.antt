@@ -12,8 +12,8 @@ pub returns-in_err-target : goal.returns-in_err-target
 returns-in_err-target g c =
     let sided = g.S.Sheet.sided c.args.source.now in
     let s = c.sides-rows.ensures in
-    let want : length c.as_mut_slice.result.now ≡ c.sides-rows.result.0 * c.sides-rows.result.1 = c.as_mut_slice.ensures.len ∙ c.in_ok-cells.ensures.len in
-    absurd (is_made c.sides-rows.result.0 c.sides-rows.result.1 (length c.as_mut_slice.result.now) (c.sides-rows.result.0 * c.sides-rows.result.1) (tt {0}) (subst Side (sym s.rows) sided.rows) (subst Side (sym s.cols) sided.cols) want _ _ c.in_err-target.ensures.told)
+    let want : length c.as_mut_slice.result.now ≡ c.sides-rows.result.rows * c.sides-rows.result.cols = c.as_mut_slice.ensures.len ∙ c.in_ok-cells.ensures.len in
+    absurd (is_made c.sides-rows.result.rows c.sides-rows.result.cols (length c.as_mut_slice.result.now) (c.sides-rows.result.rows * c.sides-rows.result.cols) (tt {0}) (subst Side (sym s.rows) sided.rows) (subst Side (sym s.cols) sided.cols) want _ _ c.in_err-target.ensures.told)
 
 pub returns-in_err-raised : goal.returns-in_err-raised
 returns-in_err-raised g c =
@@ -21,7 +21,7 @@ returns-in_err-raised g c =
     let s = c.sides-rows.ensures in
     let t = c.in_ok-target.target in
     let m = c.in_ok-target.ensures.made in
-    let all : c.sides-rows.result.0 * c.sides-rows.result.1 ≡ size src = (λ i. s.rows i * s.cols i) in
+    let all : c.sides-rows.result.rows * c.sides-rows.result.cols ≡ size src = (λ i. s.rows i * s.cols i) in
     let told = enough (kind_of g.M.Order g.M.Mark.lowest) src (flat t.rows t.cols t.cells.now) _ (record { marks = c.as_mut_slice-2.result; levels = c.as_mut_slice-3.result; origins = c.as_mut_slice-4.result; heap = c.as_mut_slice-5.result }) _
     (omega (arith, c.as_mut_slice-2.ensures.len ∙ c.in_ok-marks.ensures.len ∙ all))
     (omega (arith, c.as_mut_slice-3.ensures.len ∙ c.in_ok-levels.ensures.len ∙ all))
@@ -41,7 +41,7 @@ returns g c =
     let m = c.in_ok-target.ensures.made in
     let t = c.fill_sheet.new.target in
     let f = c.in_ok-raised.ensures in
-    let all : c.sides-rows.result.0 * c.sides-rows.result.1 ≡ size src = (λ i. s.rows i * s.cols i) in
+    let all : c.sides-rows.result.rows * c.sides-rows.result.cols ≡ size src = (λ i. s.rows i * s.cols i) in
     let told = enough (kind_of g.M.Order g.M.Mark.lowest) src (flat a.rows a.cols a.cells.now) _ (record { marks = c.as_mut_slice-2.result; levels = c.as_mut_slice-3.result; origins = c.as_mut_slice-4.result; heap = c.as_mut_slice-5.result }) _
     (omega (arith, c.as_mut_slice-2.ensures.len ∙ c.in_ok-marks.ensures.len ∙ all))
     (omega (arith, c.as_mut_slice-3.ensures.len ∙ c.in_ok-levels.ensures.len ∙ all))

@@ -13,7 +13,7 @@ put_head-first-requires g c =
     let s = c.sides-rows.ensures in
     let sided = g.S.Sheet.sided c.args.sheet.now in
     let t = measured g.M.Spelled.named g.M.Spelled.spelled m (length c.args.scratch.now) c.in_ok-len.len c.in_ok-len.ensures.told in
-    let head : length (head_line g.M.Spelled.named c.sides-rows.result.0 c.sides-rows.result.1) ≡ length (head_line g.M.Spelled.named m.rows m.cols) = (λ i. length (head_line g.M.Spelled.named (s.rows i) (s.cols i))) in
+    let head : length (head_line g.M.Spelled.named c.sides-rows.result.rows c.sides-rows.result.cols) ≡ length (head_line g.M.Spelled.named m.rows m.cols) = (λ i. length (head_line g.M.Spelled.named (s.rows i) (s.cols i))) in
     record {
       rows = subst Side (sym s.rows) sided.rows;
       cols = subst Side (sym s.cols) sided.cols;
@@ -25,11 +25,11 @@ put_rows-last-requires g c =
     let m = g.S.Sheet.meaning c.args.sheet.now in
     let s = c.sides-rows.ensures in
     let t = measured g.M.Spelled.named g.M.Spelled.spelled m (length c.args.scratch.now) c.in_ok-len.len c.in_ok-len.ensures.told in
-    let head : length (head_line g.M.Spelled.named c.sides-rows.result.0 c.sides-rows.result.1) ≡ length (head_line g.M.Spelled.named m.rows m.cols) = (λ i. length (head_line g.M.Spelled.named (s.rows i) (s.cols i))) in
+    let head : length (head_line g.M.Spelled.named c.sides-rows.result.rows c.sides-rows.result.cols) ≡ length (head_line g.M.Spelled.named m.rows m.cols) = (λ i. length (head_line g.M.Spelled.named (s.rows i) (s.cols i))) in
     let p = c.put_head-first.ensures in
-    let wide : c.sides-rows.result.1 - 0 ≤ length c.text_length.new.scratch = omega (arith, s.cols, t.wide, c.text_length.auto.scratch) in
+    let wide : c.sides-rows.result.cols - 0 ≤ length c.text_length.new.scratch = omega (arith, s.cols, t.wide, c.text_length.auto.scratch) in
     record {
-      cols = length-take-le (c.sides-rows.result.1 - 0) c.text_length.new.scratch wide ∙ sub-zero c.sides-rows.result.1 ∙ s.cols;
+      cols = length-take-le (c.sides-rows.result.cols - 0) c.text_length.new.scratch wide ∙ sub-zero c.sides-rows.result.cols ∙ s.cols;
       live = t.live;
       room = omega (arith, c.if-out-len.false, t.parts, head, p.place, put_long _ _ _ _ _ p);
     }
@@ -39,7 +39,7 @@ put-requires g c =
     let m = g.S.Sheet.meaning c.args.sheet.now in
     let s = c.sides-rows.ensures in
     let t = measured g.M.Spelled.named g.M.Spelled.spelled m (length c.args.scratch.now) c.in_ok-len.len c.in_ok-len.ensures.told in
-    let head : length (head_line g.M.Spelled.named c.sides-rows.result.0 c.sides-rows.result.1) ≡ length (head_line g.M.Spelled.named m.rows m.cols) = (λ i. length (head_line g.M.Spelled.named (s.rows i) (s.cols i))) in
+    let head : length (head_line g.M.Spelled.named c.sides-rows.result.rows c.sides-rows.result.cols) ≡ length (head_line g.M.Spelled.named m.rows m.cols) = (λ i. length (head_line g.M.Spelled.named (s.rows i) (s.cols i))) in
     let p = c.put_head-first.ensures in
     let q = c.put_rows-last.ensures in
     omega (arith, c.if-out-len.false, t.parts, head, p.place, q.place, put_long _ _ _ _ _ p, put_long _ _ _ _ _ q)
@@ -49,7 +49,7 @@ returns g c =
     let m = g.S.Sheet.meaning c.args.sheet.now in
     let s = c.sides-rows.ensures in
     let t = measured g.M.Spelled.named g.M.Spelled.spelled m (length c.args.scratch.now) c.in_ok-len.len c.in_ok-len.ensures.told in
-    let w = text_put g.M.Spelled.named g.M.Spelled.spelled m c.sides-rows.result.0 c.sides-rows.result.1 s.rows s.cols _ _ _ _ _ _ _ c.put_head-first.ensures c.put_rows-last.ensures c.put.ensures in
+    let w = text_put g.M.Spelled.named g.M.Spelled.spelled m c.sides-rows.result.rows c.sides-rows.result.cols s.rows s.cols _ _ _ _ _ _ _ c.put_head-first.ensures c.put_rows-last.ensures c.put.ensures in
     record {
       told = written_told g.M.Spelled.named g.M.Spelled.spelled m (length c.args.scratch.now) c.in_ok-len.len t (length c.args.out.now) c.put.result c.if-out-len.false w.0;
       leaves = w.1;

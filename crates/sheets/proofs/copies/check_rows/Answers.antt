@@ -1,16 +1,9 @@
 use Rattle.std.proofs.Common.{◌≡◌, ◌+◌, false, [], ◌∷◌, length, sym, ap, ◌∙◌, arith}
 use Rattle.std.proofs.lemmas.Result.{err_from_is_err_and}
 use Rattle.sheets.specs.Runs.{outside, broken}
-use Rattle.sheets.proofs.Checks.{fits_run, passed, past, carried}
-use Rattle.sheets.proofs.Rectangles.{rows_more, rows_broken}
+use Rattle.sheets.proofs.Checks.{fits_run, past, carried}
+use Rattle.sheets.proofs.Rectangles.{rows_broken}
 use Rattle.sheets.proofs.copies.check_rows.Goals as goal
-
-pub loop-i-preserved : goal.loop-i-preserved
-loop-i-preserved g c =
-    let m = g.S.Sheet.meaning c.args.source.now in
-    let told = c.in_ok-read.ensures.told in
-    let whole = (passed _ _ [] _ _ (passed _ _ (_ ∷ []) _ _ told).1).0 in
-    rows_more m c.args.from _ c.loop-i.i c.loop-i.invariant (ap (broken m (c.args.from.row + c.loop-i.i) c.args.from.col) (sym c.loop-i.auto.run) ∙ whole)
 
 pub returns-in_err-read : goal.returns-in_err-read
 returns-in_err-read g c =

@@ -1,21 +1,11 @@
-use Rattle.std.proofs.Common.{◌≡◌, ◌+◌, ◌-◌, ◌*◌, ◌≤◌, false, [], ◌∷◌, length, sym, ap, ◌∙◌, arith, rules}
+use Rattle.std.proofs.Common.{◌≡◌, ◌+◌, ◌-◌, ◌*◌, ◌≤◌, false, [], ◌∷◌, length, sym, ap, ◌∙◌, arith}
 use borrow.Rule.Slice.PartMut.{mid_of}
 use Rattle.std.proofs.lemmas.Result.{err_from_is_err_and}
 use Rattle.sheets.specs.Runs.{outside, broken}
 use Rattle.sheets.proofs.Checks.{fits_run, passed, past, carried}
 use Rattle.sheets.proofs.Rectangles.{rows_more, rows_broken}
-use Rattle.terrain.proofs.Rows.{row_end, block_more, part_length, refused_by}
+use Rattle.terrain.proofs.Rows.{row_end, block_more, part_length}
 use Rattle.terrain.proofs.blocks.read_rows.Goals as goal
-
-pub offset_bounds-marks-start : goal.offset_bounds-marks-start
-offset_bounds-marks-start g c =
-    let e : c.loop-i.i * c.args.extent.width ≤ length c.loop-i.marks = omega (arith, row_end c.args.extent.height c.args.extent.width c.loop-i.i c.loop-i-test.true, c.requires.long, c.loop-i.auto.marks) in
-    search rules
-
-pub slice_bounds-read-end : goal.slice_bounds-read-end
-slice_bounds-read-end g c =
-    let e : c.loop-i.i * c.args.extent.width + c.args.extent.width ≤ length c.loop-i.marks = omega (arith, row_end c.args.extent.height c.args.extent.width c.loop-i.i c.loop-i-test.true, c.requires.long, c.loop-i.auto.marks) in
-    search rules
 
 pub loop-i-preserved : goal.loop-i-preserved
 loop-i-preserved g c =
@@ -31,8 +21,8 @@ loop-i-preserved g c =
       block_more m c.args.from w _ i c.loop-i.marks c.read.new.out c.loop-i.invariant.1 inside (leaves.0 ∙ long) leaves.1,
     )
 
-pub returns-in_err-read : goal.returns-in_err-read
-returns-in_err-read g c =
+pub returns-in_err-read-clause-told : goal.returns-in_err-read-clause-told
+returns-in_err-read-clause-told g c =
     let m = g.S.Sheet.meaning c.args.source.now in
     let w = c.args.extent.width in
     let i = c.loop-i.i in
@@ -43,7 +33,4 @@ returns-in_err-read g c =
     let p = err_from_is_err_and c.from_residual.result c.from_residual.ensures.1 in
     let inside : outside m row col (length (mid_of (i * w) (i * w + w - i * w) c.loop-i.marks)) ≡ false = fits_run m.rows m.cols row col _ (omega arith) (omega (arith, long)) in
     let told = past _ _ (_ ∷ []) _ _ inside c.in_err-read.ensures.told in
-    rw (p.1, p.2) (record {
-      told = carried _ _ _ _ _ [] _ _ (λ b. rows_broken m c.args.from w c.args.extent.height i c.loop-i-test.true (ap (broken m row col) (sym long) ∙ b)) told;
-      leaves = λ other. absurd (other (refused_by _ _ _ _ _ told));
-    })
+    rw (p.1, p.2) (carried _ _ _ _ _ [] _ _ (λ b. rows_broken m c.args.from w c.args.extent.height i c.loop-i-test.true (ap (broken m row col) (sym long) ∙ b)) told)

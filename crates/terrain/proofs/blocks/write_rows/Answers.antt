@@ -1,19 +1,9 @@
-use Rattle.std.proofs.Common.{◌≡◌, ◌+◌, ◌-◌, ◌*◌, ◌≤◌, length, take, drop, ap, ◌∙◌, arith, rules}
+use Rattle.std.proofs.Common.{◌≡◌, ◌+◌, ◌-◌, ◌*◌, ◌≤◌, length, take, drop, ap, ◌∙◌, arith}
 use Rattle.terrain.proofs.Rows.{row_end, row_holds, part_length}
 use Rattle.sheets.specs.Layouts.{flat}
 use Rattle.sheets.proofs.Rectangles.{copied_more}
 use Rattle.terrain.specs.Cells.{place}
 use Rattle.terrain.proofs.blocks.write_rows.Goals as goal
-
-pub offset_bounds-marks-start : goal.offset_bounds-marks-start
-offset_bounds-marks-start g c =
-    let e : c.loop-i.i * c.args.extent.width ≤ length c.args.marks.now = omega (arith, row_end c.args.extent.height c.args.extent.width c.loop-i.i c.loop-i-test.true, c.requires.long) in
-    search rules
-
-pub slice_bounds-write-end : goal.slice_bounds-write-end
-slice_bounds-write-end g c =
-    let e : c.loop-i.i * c.args.extent.width + c.args.extent.width ≤ length c.args.marks.now = omega (arith, row_end c.args.extent.height c.args.extent.width c.loop-i.i c.loop-i-test.true, c.requires.long) in
-    search rules
 
 pub loop-i-preserved : goal.loop-i-preserved
 loop-i-preserved g c =

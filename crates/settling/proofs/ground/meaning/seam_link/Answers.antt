@@ -1,15 +1,18 @@
-use Rattle.std.proofs.Common.{◌≡◌, ℕ, ◌<◌, ◌≤◌, Some, None, Option, sym, ap, ◌∙◌, ap₂, arith}
+use Rattle.std.proofs.Common.{◌≡◌, ℕ, ◌<◌, ◌≤◌, Some, None, Option, length, refl, sym, ap, ◌∙◌, ap₂, arith}
+use Rattle.marks.specs.Orders.{OrderLaws}
 use Rattle.sheets.specs.declared.copies.Place.{Place}
 use Rattle.terrain.specs.Cells.{place}
 use Rattle.terrain.specs.Terrains.{kind_of}
+use Rattle.terrain.proofs.Marks.{higher_by}
 use Rattle.tiles.specs.Plans.{Plan, Lawful, plan_of}
 use Rattle.tiles.specs.Mouths.{mouth_number, mouths}
 use Rattle.tiles.specs.declared.places.Mouth.{Mouth}
 use Rattle.tiles.proofs.Tilings.{side_below}
 use Rattle.tiles.proofs.Seams.{numbered}
 use Rattle.tables.specs.Links.{around, link_to}
+use Rattle.tables.specs.Records.{mark_of}
 use Rattle.tables.proofs.Linked.{number_in}
-use Rattle.tables.proofs.Reading.{seam_outside, seam_spot, seam_inside, seam_over}
+use Rattle.tables.proofs.Reading.{mark_read, seam_outside, seam_spot, seam_inside, seam_over}
 use Rattle.settling.specs.Grounds.{Stands}
 use Rattle.settling.proofs.ground.meaning.seam_link.Goals as goal
 
@@ -64,15 +67,24 @@ returns-in_err-far g c =
     s (sym c.spot.ensures ∙ c.in_ok-spot.was) (λ e. c.if-spot-mouth.false (e ∙ sym c.requires.here.tile))
     ∙ ap (link_to κ ms c.args.node) (sym c.mouth_number.ensures ∙ c.in_err-far.was))
 
-pub seam_level-requires : goal.seam_level-requires
-seam_level-requires g c =
-    let p = plan_of c.args.cuts.now in
-    let law = c.sides-rows.ensures.rules in
-    let d = c.in_ok-cell.cell in
-    let m = c.args.mouth in (
-      below p law m.row m.col c.args.node _ c.requires.here.number c.requires.room,
-      below p law d.row d.col c.in_ok-far.far _ (sym c.mouth_number.ensures ∙ c.in_ok-far.was) c.requires.room,
-    )
+-- both mouths have a record
+pub bounds-mouths-node : goal.bounds-mouths-node
+bounds-mouths-node g c = below (plan_of c.args.cuts.now) c.sides-rows.ensures.rules c.args.mouth.row c.args.mouth.col c.args.node _ c.requires.here.number c.requires.room
+
+pub offset_bounds-mouths-node : goal.offset_bounds-mouths-node
+offset_bounds-mouths-node g c = omega (arith, bounds-mouths-node g c)
+
+pub bounds-mouths-node-in_ok-far : goal.bounds-mouths-node-in_ok-far
+bounds-mouths-node-in_ok-far g c = bounds-mouths-node g c
+
+pub bounds-mouths-far : goal.bounds-mouths-far
+bounds-mouths-far g c = below (plan_of c.args.cuts.now) c.sides-rows.ensures.rules c.in_ok-cell.cell.row c.in_ok-cell.cell.col c.in_ok-far.far _ (sym c.mouth_number.ensures ∙ c.in_ok-far.was) c.requires.room
+
+pub offset_bounds-mouths-far : goal.offset_bounds-mouths-far
+offset_bounds-mouths-far g c = omega (arith, bounds-mouths-far g c)
+
+pub bounds-mouths-far-in_ok-far : goal.bounds-mouths-far-in_ok-far
+bounds-mouths-far-in_ok-far g c = bounds-mouths-far g c
 
 pub returns : goal.returns
 returns g c =
@@ -82,7 +94,11 @@ returns g c =
     let s = c.in_ok-spot.spot in
     let κ = kind_of g.M.Order g.M.Mark.lowest in
     let ms = c.args.mouths.now in
-    ap (λ l. Some (c.in_ok-far.far, l)) c.seam_level.ensures
+    let here = below p c.sides-rows.ensures.rules m.row m.col c.args.node (length ms) c.requires.here.number c.requires.room in
+    let there = below p c.sides-rows.ensures.rules d.row d.col c.in_ok-far.far (length ms) (sym c.mouth_number.ensures ∙ c.in_ok-far.was) c.requires.room in
+    let O : OrderLaws κ.leb = record { total = g.met.M.Order.total; transitive = g.met.M.Order.transitive; antisymmetric = g.met.M.Order.antisymmetric } in
+    let level = c.higher.ensures ∙ higher_by O (mark_of κ.void ms) c.args.node c.in_ok-far.far _ _ (ap (λ r. r.mark) (sym c.index-mouths-node.is) ∙ mark_read κ.void ms c.args.node c.args.node _ refl here c.index-mouths-node.is) (ap (λ r. r.mark) (sym c.index-mouths-far.is) ∙ mark_read κ.void ms c.in_ok-far.far c.in_ok-far.far _ refl there c.index-mouths-far.is) in
+    ap (λ l. Some (c.in_ok-far.far, l)) level
     ∙ sym (seam_over κ p c.sides-rows.ensures.rules ms c.args.node c.args.k m.row m.col c.requires.here.number d
     (looked p c.sides-rows.result (place m.row m.col) c.args.k (Some d) c.around.result c.sides-rows.ensures.value c.around.ensures c.in_ok-cell.was)
     s (sym c.spot.ensures ∙ c.in_ok-spot.was) (λ e. c.if-spot-mouth.false (e ∙ sym c.requires.here.tile))

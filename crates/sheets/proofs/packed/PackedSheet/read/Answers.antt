@@ -4,34 +4,22 @@ use Rattle.sheets.specs.Grids.{Cell, cell_of}
 use Rattle.sheets.specs.Layouts.{code_at, code_cell}
 use Rattle.sheets.proofs.Checks.{fails, passes}
 use Rattle.sheets.proofs.Marks.{at_fill, none_dead}
-use Rattle.sheets.proofs.Codes.{codes_unbroken, codes_broken, codes_held}
+use Rattle.sheets.proofs.Codes.{codes_unbroken, codes_broken}
 use Rattle.sheets.proofs.Starts.{started}
 use Rattle.sheets.proofs.packed.PackedSheet.read.Goals as goal
 use Rattle.sheets.proofs.packed.PackedSheet.read.Goals.{in-Some, in_default}
 
-pub readable-requires : goal.readable-requires
-readable-requires g c =
+pub returns-then-not-readable-clause-told : goal.returns-then-not-readable-clause-told
+returns-then-not-readable-clause-told g c =
     let s = c.args.self.now in
-    (started s.rows s.cols c.args.row c.args.col (length c.args.out.now) _ c.in_ok-from.ensures).ends
-
-pub returns-then-not-readable : goal.returns-then-not-readable
-returns-then-not-readable g c =
-    let s = c.args.self.now in
-    let t = started s.rows s.cols c.args.row c.args.col (length c.args.out.now) _ c.in_ok-from.ensures in
+    let t = started c.sides.result s.rows s.cols c.args.row c.args.col (length c.args.out.now) _ c.sides.ensures.rows c.sides.ensures.cols c.in_ok-from.ensures in
     let d = when_false _ _ c.if-not-readable.true c.readable.ensures in
-    record {
-      told = passes _ _ (_ ∷ []) _ _ t.inside (fails _ _ [] _ (codes_broken g.M.CodedMark.decoded s.rows s.cols s.bytes.now c.args.row c.args.col _ (length c.args.out.now) t.is d.0 d.1 d.2));
-      leaves = refl;
-    }
-
-pub loop-k-init : goal.loop-k-init
-loop-k-init g c = λ k h. absurd (omega arith)
+    passes _ _ (_ ∷ []) _ _ t.inside (fails _ _ [] _ (codes_broken g.M.CodedMark.decoded s.rows s.cols s.bytes.now c.args.row c.args.col _ (length c.args.out.now) t.is d.0 d.1 d.2))
 
 pub mark_at-requires : goal.mark_at-requires
 mark_at-requires g c =
     let s = c.args.self.now in
-    let t = started s.rows s.cols c.args.row c.args.col (length c.args.out.now) _ c.in_ok-from.ensures in
-    omega (arith, t.ends)
+    omega (arith, (started c.sides.result s.rows s.cols c.args.row c.args.col (length c.args.out.now) _ c.sides.ensures.rows c.sides.ensures.cols c.in_ok-from.ensures).ends)
 
 pub loop-k-preserved : goal.loop-k-preserved
 loop-k-preserved g c =
@@ -46,12 +34,9 @@ loop-k-preserved g c =
       | in_default w ↦ absurd (none_dead (decoded (code_at bs (from + c.loop-k.k))) w.in_default.ensures (live c.loop-k.k c.loop-k-test.true))
     ]
 
-pub returns : goal.returns
-returns g c =
+pub returns-clause-told : goal.returns-clause-told
+returns-clause-told g c =
     let s = c.args.self.now in
-    let t = started s.rows s.cols c.args.row c.args.col (length c.args.out.now) _ c.in_ok-from.ensures in
+    let t = started c.sides.result s.rows s.cols c.args.row c.args.col (length c.args.out.now) _ c.sides.ensures.rows c.sides.ensures.cols c.in_ok-from.ensures in
     let live = when_true _ _ c.if-not-readable.false c.readable.ensures in
-    record {
-      told = passes _ _ (_ ∷ []) _ _ t.inside (passes _ _ [] _ _ (codes_unbroken g.M.CodedMark.decoded s.rows s.cols s.bytes.now c.args.row c.args.col _ (length c.args.out.now) t.is live) refl);
-      leaves = (c.loop-k.auto.out, codes_held g.M.CodedMark.decoded s.rows s.cols s.bytes.now c.args.row c.args.col _ (length c.args.out.now) t.is c.loop-k.out (λ k lt. c.loop-k.invariant k (omega (arith, c.loop-k.auto.out))));
-    }
+    passes _ _ (_ ∷ []) _ _ t.inside (passes _ _ [] _ _ (codes_unbroken g.M.CodedMark.decoded s.rows s.cols s.bytes.now c.args.row c.args.col _ (length c.args.out.now) t.is live) refl)

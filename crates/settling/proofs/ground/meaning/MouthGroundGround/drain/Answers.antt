@@ -1,20 +1,16 @@
-use Rattle.std.proofs.Common.{◌≡◌, ℕ, ◌<◌, ◌≤◌, Bool, true, false, length, Some, sym, refl, ap, ◌∙◌, ap₂, arith}
-use Rattle.terrain.specs.CellGrounds.{at_edge}
+use Rattle.std.proofs.Common.{◌≡◌, ℕ, ◌<◌, ◌≤◌, Bool, true, false, ltb, length, Some, sym, refl, ap, ◌∙◌, ap₂, arith}
+use Rattle.std.proofs.lemmas.Bool.{ltb-false, or_parts}
+use Rattle.sheets.specs.Grids.{Side, at_edge}
 use Rattle.terrain.specs.Terrains.{kind_of}
+use Rattle.tiles.specs.Rules.{side_outside}
 use Rattle.tiles.specs.Plans.{Plan, Lawful, plan_of}
 use Rattle.tiles.specs.Mouths.{mouth_number, mouths}
-use Rattle.tiles.proofs.Tilings.{lawful_plan}
+use Rattle.tiles.proofs.Tilings.{lawful_plan, side_below}
 use Rattle.tiles.proofs.Seams.{numbered}
 use Rattle.tables.specs.Records.{tables}
-use Rattle.tables.proofs.Linked.{number_in, drain_none, drain_read}
+use Rattle.tables.proofs.Linked.{drain_none, drain_read}
 use Rattle.tables.proofs.Reading.{mark_read}
 use Rattle.settling.proofs.ground.meaning.MouthGroundGround.drain.Goals as goal
-
--- a mouth's cell lies within the sides
-inside : (p : Plan) → Lawful p → (i j a : ℕ) (s : ℕ × ℕ) → mouth_number p i j ≡ Some a → s ≡ (p.rows, p.cols) → (i < s.0) × (j < s.1)
-inside p law i j a s e is =
-    let r = number_in p law i j a e in
-    (omega (arith, r.0, ap (λ z. z.0) is), omega (arith, r.1, ap (λ z. z.1) is))
 
 pub returns-in_err-mouth : goal.returns-in_err-mouth
 returns-in_err-mouth g c =
@@ -22,10 +18,9 @@ returns-in_err-mouth g c =
     let p = plan_of s.cuts in
     c.from_residual.ensures ∙ sym (drain_none (kind_of g.M.Order g.M.Mark.lowest) p (tables s.mouths.now s.passes.now) (lawful_plan s.cuts) c.args.node c.in_err-mouth.ensures)
 
-pub on_edge-requires : goal.on_edge-requires
-on_edge-requires g c =
-    let m = c.in_ok-mouth.mouth in
-    inside (plan_of c.args.self.now.cuts) c.sides-rows.ensures.rules m.row m.col c.args.node c.sides-rows.result c.in_ok-mouth.ensures.0 c.sides-rows.ensures.value
+-- a lawful side is one that a sheet may have
+side : (n : ℕ) → side_outside n ≡ false → Side n
+side n e = (ltb-false n 1 (or_parts (ltb n 1) (ltb 2048 n) e).0, side_below n e)
 
 -- a mouth has a record
 recorded : (p : Plan) → Lawful p → (i j a m : ℕ) → mouth_number p i j ≡ Some a → mouths p ≤ m → a < m

@@ -1,21 +1,22 @@
-use Rattle.std.proofs.Common.{true, false, Some, sym, ap, ◌∙◌, arith}
+use Rattle.std.proofs.Common.{Bool, true, false, cond, Some, None, ◌≡◌, sym, refl, ap, ◌∙◌, arith}
 use Rattle.std.proofs.lemmas.List.{get_or_read}
-use Rattle.terrain.specs.CellLaws.{place_in, drain_none, drain_by}
+use Rattle.std.specs.Bool.{then_some}
+use Rattle.terrain.specs.CellLaws.{drain_none, drain_by}
 use Rattle.terrain.proofs.ground.meaning.CellGroundGround.drain.Goals as goal
 
-pub returns-then-node-marks : goal.returns-then-node-marks
-returns-then-node-marks g c = sym (drain_none _ _ c.args.self.now.rows c.args.self.now.cols _ c.args.node (omega (arith, c.args.self.now.long)))
-
-pub on_edge-requires : goal.on_edge-requires
-on_edge-requires g c = place_in c.args.self.now.rows c.args.self.now.cols c.args.node (omega (arith, c.args.self.now.long))
-
-pub returns-then-on_edge : goal.returns-then-on_edge
-returns-then-on_edge g c =
+pub returns-in_err-mark : goal.returns-in_err-mark
+returns-in_err-mark g c =
     let s = c.args.self.now in
-    ap Some (get_or_read s.marks.now c.args.node c.index-marks-node.result c.if-node-marks.false c.index-marks-node.is g.M.Mark.lowest)
-    ∙ sym (drain_by g.M.Order.leb g.M.Mark.lowest s.rows s.cols s.marks.now c.args.node true (omega (arith, s.long)) (sym c.if-on_edge.ensures))
+    c.from_residual.ensures ∙ sym (drain_none _ _ s.sides.rows s.sides.cols _ c.args.node (omega (arith, s.long, c.in_err-mark.ensures.lookup)))
 
-pub returns-else-on_edge : goal.returns-else-on_edge
-returns-else-on_edge g c =
+some_if : {X : Type 0} (b : Bool) (x : X) → then_some b x ≡ cond b (Some x) None
+some_if true x = refl
+some_if false x = refl
+
+pub returns : goal.returns
+returns g c =
     let s = c.args.self.now in
-    sym (drain_by g.M.Order.leb g.M.Mark.lowest s.rows s.cols s.marks.now c.args.node false (omega (arith, s.long)) (sym c.if-on_edge.ensures))
+    let l = c.in_ok-mark.ensures.lookup in
+    let mark = get_or_read s.marks.now c.args.node c.in_ok-mark.field-0.now (omega arith) l.1 g.M.Mark.lowest in
+    c.then_some.ensures ∙ some_if c.on_edge.result _ ∙ ap (λ x. cond c.on_edge.result (Some x) None) mark
+    ∙ sym (drain_by g.M.Order.leb g.M.Mark.lowest s.sides.rows s.sides.cols s.marks.now c.args.node c.on_edge.result (omega (arith, s.long)) (sym c.on_edge.ensures))
