@@ -13,13 +13,13 @@ use Rattle.flood.specs.Lexical.{opened}
 refused_accepted : (n p : ℕ) (t : Told Unit) → t ≡ refused n p → t ≡ accepted tt → ⊥
 refused_accepted n p t a b = let z : ◌≡◌ {A = ℕ} 0 1 = cc in omega arith
 
-pub put_accepted : {X : Type 0} (h : Heap X) (x : X) (r : Result Unit Refusal) (h' : Heap X) → h.len < room h → told r ≡ checked ((full h, 25) ∷ []) tt → Put h x r h' → Put {F = Refusal} h x (Ok tt) h'
+pub put_accepted : {X : Type 0} {m : _} (h : Heap X m) (x : X) (r : Result Unit Refusal) (h' : Heap X m) → h.len < room h → told r ≡ checked ((full h, 25) ∷ []) tt → Put h x r h' → Put {F = Refusal} h x (Ok tt) h'
 put_accepted h x (Ok u) h' lt t p = p
 put_accepted h x (Err e) h' lt t p =
     let fits : full h ≡ false = lt-leb (room h) (length (contents h)) (simp length-take (omega arith)) in
     absurd (refused_accepted (number e) (placed e) (told (Err e)) refl (t ∙ ap (λ b. checked ((b, 25) ∷ []) tt) fits))
 
-pub lower_accepted : {X : Type 0} (le : X → X → Bool) (h : Heap X) (i : ℕ) (x y : X) (r : Result Unit Refusal) (h' : Heap X) → slice_get (contents h) i ≡ Some y → le x y ≡ true
+pub lower_accepted : {X : Type 0} {m : _} (le : X → X → Bool) (h : Heap X m) (i : ℕ) (x y : X) (r : Result Unit Refusal) (h' : Heap X m) → slice_get (contents h) i ≡ Some y → le x y ≡ true
     → told r ≡ checked ((above le x (slice_get (contents h) i), 26) ∷ []) tt → Lowered h i x r h' → Lowered {F = Refusal} h i x (Ok tt) h'
 lower_accepted le h i x y (Ok u) h' is lt t p = p
 lower_accepted le h i x y (Err e) h' is lt t p =

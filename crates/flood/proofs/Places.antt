@@ -1,5 +1,5 @@
 -- Places that are noted, and what a queue keeps. Assumes nothing.
-use Rattle.std.proofs.Common.{◌≡◌, ℕ, ◌+◌, ◌-◌, ◌/◌, ◌<◌, ◌≤◌, Bool, ◌⊎◌, List, ◌∷◌, length, get_or, set, Some, None, Option, sym, refl, ◌∙◌, subst, inl, inr, ⊎_elim, arith, get_or-set_other, get_or-set_same, drop-set-lt}
+use Rattle.std.proofs.Common.{◌≡◌, ℕ, ◌+◌, ◌-◌, ◌/◌, ◌<◌, ◌≤◌, ◌⊎◌, List, ◌∷◌, length, get_or, set, Some, None, Option, sym, refl, ◌∙◌, subst, inl, inr, ⊎_elim, arith, get_or-set_other, get_or-set_same, drop-set-lt}
 use Rattle.std.specs.List.{slice_get}
 use Rattle.std.specs.List.Sorted.{IsPermutation}
 use Rattle.std.proofs.ByRecursion.{All-weaker, All-set, all_shuffled}
@@ -76,7 +76,7 @@ pub path_over : {M : Type 0} (os : List (Option ℕ)) (q : List (Entry M)) (p he
 path_over os q p head le was k x is = ⊎_elim (λ e. e) (λ a. absurd (a.2 (omega (arith, above_le a.0, a.1)))) (was k x is)
 
 -- after a call of the heap
-pub half_placed : {M : Type 0} (os : List (Option ℕ)) (h h' : Heap (Entry M)) → Placed os (contents h) → Traced h h' → HalfPlaced os (contents h') h'.path.foot h'.path.head
+pub half_placed : {M : Type 0} {m : _} (os : List (Option ℕ)) (h h' : Heap (Entry M) m) → Placed os (contents h) → Traced h h' → HalfPlaced os (contents h') h'.path.foot h'.path.head
 half_placed os h h' was trace k x is = ⊎_elim (λ e. inl (was k x (sym e ∙ is))) (λ a. inr a) (trace k (nth_inside (contents h') k x is))
 
 -- the slot of a node that does not wait may be written
@@ -125,9 +125,8 @@ node_low os q v s one =
     subst (λ n. n < length os) r.3 (all_nth (λ y. y.node < length os) q r.0 r.1 s.within r.2)
 
 -- the slot of a node that does not wait is free
-pub ready_apart : {M : Type 0} {leb : M → M → Bool} {os : List (Option ℕ)} {s : Queue M} (v : ℕ) (o : Option ℕ) → times v (waiting s) ≡ 0 → Ready leb os s → Ready leb (set os v o) s
+pub ready_apart : {M : Type 0} {m : _} {os : List (Option ℕ)} {s : Queue M m} (v : ℕ) (o : Option ℕ) → times v (waiting s) ≡ 0 → Ready os s → Ready (set os v o) s
 ready_apart {os = os} {s = s} v o none r = record {
-  order = r.order;
   single = single_long (length-set os v o) r.single;
   placed = λ on k x is.
       let apart : x.node ≡ v → ⊥ = λ e. omega (arith, times_some v (waiting s) k x is e) in

@@ -2,8 +2,7 @@
 use Rattle.std.specs.Prelude.{◌≡◌, ℕ, ◌+◌, ◌<◌, ◌≤◌, Bool, true, ◌⊎◌, List, ◌∷◌, length, drop, Some, None, count_by, Option, ◌≢◌, nat_eq, slice_index_or, slice_set}
 use Rattle.std.specs.List.Sorted.{IsPermutation}
 use Rattle.std.specs.List.{AllByRecursion, slice_get}
-use Rattle.flood.specs.Entries.{before}
-use Rattle.flood.specs.Heaps.{Sound, contents, room}
+use Rattle.flood.specs.Heaps.{contents, room}
 use Rattle.flood.specs.Orders.{Above}
 use Rattle.flood.specs.declared.entry.Entry.{Entry}
 use Rattle.flood.specs.declared.queue.Queue.{Queue}
@@ -13,7 +12,7 @@ abbrev pub times : {M : Type 0} → ℕ → List (Entry M) → ℕ
 times v q = count_by (λ x. nat_eq x.node v) q
 
 -- the entries that wait
-abbrev pub waiting : {M : Type 0} → Queue M → List (Entry M)
+abbrev pub waiting : {M : Type 0} {m : _} → Queue M m → List (Entry M)
 waiting s = contents s.heap
 
 -- the place of each entry stands at its node
@@ -35,9 +34,8 @@ pub record Single {M : Type 0} (os : List (Option ℕ)) (q : List (Entry M)) : T
   pub within : AllByRecursion (λ x. x.node < length os) q
   pub once : (v : ℕ) → times v q ≤ 1
 
--- the queue is in order, each node waits once at most, and if places are kept they are right
-pub record Ready {M : Type 0} (leb : M → M → Bool) (os : List (Option ℕ)) (s : Queue M) : Type 0 where
-  pub order : Sound (before leb) s.heap
+-- each node waits once at most, and if places are kept they are right
+pub record Ready {M : Type 0} {m : _} (os : List (Option ℕ)) (s : Queue M m) : Type 0 where
   pub single : Single os (waiting s)
   pub placed : s.placed ≡ true → Placed os (waiting s)
 
@@ -48,13 +46,13 @@ pub record Kept {M : Type 0} (os os' : List (Option ℕ)) (q : List (Entry M)) :
   pub long : length os' ≡ length os
 
 -- one entry more waits
-pub record Joined {M : Type 0} (s : Queue M) (x : Entry M) (s' : Queue M) : Type 0 where
+pub record Joined {M : Type 0} {m : _} (s : Queue M m) (x : Entry M) (s' : Queue M m) : Type 0 where
   pub entries : IsPermutation (x ∷ waiting s) (waiting s')
   pub more : s'.heap.len ≡ s.heap.len + 1
   pub room : room s'.heap ≡ room s.heap
 
 -- a lowest entry has left, and its origin stands at its node; or there was none
-abbrev pub Left : {M : Type 0} → (M → M → Bool) → Queue M → List (Option ℕ) → Option (Entry M) → Queue M → List (Option ℕ) → Type 0
+abbrev pub Left : {M : Type 0} {m : _} → (M → M → Bool) → Queue M m → List (Option ℕ) → Option (Entry M) → Queue M m → List (Option ℕ) → Type 0
 Left leb s os None s' os' = (length (waiting s) ≡ 0) × (s' ≡ s) × (os' ≡ os)
 Left leb s os (Some x) s' os' =
     IsPermutation (waiting s) (x ∷ waiting s') × AllByRecursion (λ y. leb x.level y.level ≡ true) (waiting s)
@@ -62,7 +60,7 @@ Left leb s os (Some x) s' os' =
     × Kept (slice_set os x.node (Some x.origin)) os' (waiting s')
 
 -- x stands where an entry of its node stood
-pub record Replaced {M : Type 0} (s : Queue M) (x : Entry M) (s' : Queue M) : Type 0 where
+pub record Replaced {M : Type 0} {m : _} (s : Queue M m) (x : Entry M) (s' : Queue M m) : Type 0 where
   pub place : ℕ
   pub old : Entry M
   pub stood : slice_get (waiting s) place ≡ Some old

@@ -64,8 +64,8 @@ abbrev pub onward : Bool → ℕ → ℕ
 onward true j = j + 1
 onward false j = j
 
--- the queue is in order, and has room for the nodes that have no level yet
-pub record Roomy {M : Type 0} (leb : M → M → Bool) (n : ℕ) (ls : List (Option M)) (os : List (Option ℕ)) (s : Queue M) : Type 0 where
-  pub ready : Ready leb os s
+-- the queue is ready, and has room for the nodes that have no level yet
+pub record Roomy {M : Type 0} {m : _} (n : ℕ) (ls : List (Option M)) (os : List (Option ℕ)) (s : Queue M m) : Type 0 where
+  pub ready : Ready os s
   pub slots : n ≤ room s.heap
   pub free : s.heap.len + missing n ls ≤ n

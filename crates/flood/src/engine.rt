@@ -22,9 +22,9 @@ fn start<G: Ground>(
 )
     requires levels { G.Ground.nodes ground.now ≤ length levels.old }
     requires origins { G.Ground.nodes ground.now ≤ length origins.old }
-    requires queue { Ready G.Mark.Order.leb origins.old queue.old × (waiting queue.old ≡ []) × (queue.old.heap.len ≡ 0) × (G.Ground.nodes ground.now ≤ room queue.old.heap) }
+    requires queue { Ready origins.old queue.old × (waiting queue.old ≡ []) × (queue.old.heap.len ≡ 0) × (G.Ground.nodes ground.now ≤ room queue.old.heap) }
     ensures rest { (drop (G.Ground.nodes ground.now) levels.new ≡ drop (G.Ground.nodes ground.now) levels.old) × (drop (G.Ground.nodes ground.now) origins.new ≡ drop (G.Ground.nodes ground.now) origins.old) }
-    ensures queue { Roomy G.Mark.Order.leb (G.Ground.nodes ground.now) levels.new origins.new queue.new }
+    ensures queue { Roomy (G.Ground.nodes ground.now) levels.new origins.new queue.new }
     ensures state { Going (graph_of G.Mark.Order G.Ground ground.now) levels.new origins.new (waiting queue.new) }
 {
     for node in 0..ground.nodes() {
@@ -56,12 +56,12 @@ fn cross<G: Ground>(
 ) -> bool
     requires levels { G.Ground.nodes ground.now ≤ length levels.old }
     requires origins { G.Ground.nodes ground.now ≤ length origins.old }
-    requires queue { Roomy G.Mark.Order.leb (G.Ground.nodes ground.now) levels.old origins.old queue.old }
+    requires queue { Roomy (G.Ground.nodes ground.now) levels.old origins.old queue.old }
     requires state { Spreading (graph_of G.Mark.Order G.Ground ground.now) from place levels.old origins.old (waiting queue.old) }
     ensures rest { (drop (G.Ground.nodes ground.now) levels.new ≡ drop (G.Ground.nodes ground.now) levels.old) × (drop (G.Ground.nodes ground.now) origins.new ≡ drop (G.Ground.nodes ground.now) origins.old) }
     ensures done { (result ≡ true → place < length (G.Ground.crossings ground.now from.node)) × (result ≡ false → length (G.Ground.crossings ground.now from.node) ≤ place) }
     ensures count { queue.new.heap.len + missing (G.Ground.nodes ground.now) levels.new ≡ queue.old.heap.len + missing (G.Ground.nodes ground.now) levels.old }
-    ensures queue { Roomy G.Mark.Order.leb (G.Ground.nodes ground.now) levels.new origins.new queue.new }
+    ensures queue { Roomy (G.Ground.nodes ground.now) levels.new origins.new queue.new }
     ensures state { Spreading (graph_of G.Mark.Order G.Ground ground.now) from (onward result place) levels.new origins.new (waiting queue.new) }
 {
     let Some(crossing) = ground.crossing(from.node, place) else {
@@ -110,11 +110,11 @@ fn spread<G: Ground>(
 )
     requires levels { G.Ground.nodes ground.now ≤ length levels.old }
     requires origins { G.Ground.nodes ground.now ≤ length origins.old }
-    requires queue { Roomy G.Mark.Order.leb (G.Ground.nodes ground.now) levels.old origins.old queue.old }
+    requires queue { Roomy (G.Ground.nodes ground.now) levels.old origins.old queue.old }
     requires state { Spreading (graph_of G.Mark.Order G.Ground ground.now) from 0 levels.old origins.old (waiting queue.old) }
     ensures rest { (drop (G.Ground.nodes ground.now) levels.new ≡ drop (G.Ground.nodes ground.now) levels.old) × (drop (G.Ground.nodes ground.now) origins.new ≡ drop (G.Ground.nodes ground.now) origins.old) }
     ensures count { queue.new.heap.len + missing (G.Ground.nodes ground.now) levels.new ≡ queue.old.heap.len + missing (G.Ground.nodes ground.now) levels.old }
-    ensures queue { Roomy G.Mark.Order.leb (G.Ground.nodes ground.now) levels.new origins.new queue.new }
+    ensures queue { Roomy (G.Ground.nodes ground.now) levels.new origins.new queue.new }
     ensures state { Going (graph_of G.Mark.Order G.Ground ground.now) levels.new origins.new (waiting queue.new) }
 {
     let mut place = 0;

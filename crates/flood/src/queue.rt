@@ -12,7 +12,10 @@ use marks::{Mark, Order};
 // never do. So places are kept from the first lowering on: each in the slot in which its node's origin will stand, which
 // nobody reads before the node leaves the queue.
 #[derive(Drop)]
-pub struct Queue<'a, M: Mark> {
+pub struct Queue<'a, M: Mark>
+where
+    Entry<M>: Order,
+{
     heap: Heap<'a, Entry<M>>,
     placed: bool,
 }
@@ -58,7 +61,7 @@ fn note_path<M: Mark>(heap: &Heap<Entry<M>>, origins: &mut [Option<usize>])
 impl<'a, M: Mark> Queue<'a, M> {
     // An empty queue in the slots.
     pub(crate) fn new(slots: &'a mut [Entry<M>]) -> Queue<'a, M>
-        ensures ready { (os : List (Option ℕ)) → Ready M.Order.leb os result }
+        ensures ready { (os : List (Option ℕ)) → Ready os result }
         ensures value { (waiting result ≡ []) × (result.heap.len ≡ 0) × (room result.heap ≡ length slots.old) }
     {
         Queue {
@@ -81,7 +84,7 @@ impl<'a, M: Mark> Queue<'a, M> {
 
     // Keeps places from now on.
     fn keep_places(&mut self, origins: &mut [Option<usize>])
-        requires ready { Ready M.Order.leb origins.old self.old }
+        requires ready { Ready origins.old self.old }
         ensures placed { (Placed origins.new (waiting self.old)) × (self.new.placed ≡ true) }
         ensures same { self.new.heap ≡ self.old.heap }
         ensures kept { Kept origins.old origins.new (waiting self.old) }
@@ -95,10 +98,10 @@ impl<'a, M: Mark> Queue<'a, M> {
 
     // Lets a node wait that does not.
     pub(crate) fn put(&mut self, origins: &mut [Option<usize>], x: Entry<M>)
-        requires ready { Ready M.Order.leb origins.old self.old }
+        requires ready { Ready origins.old self.old }
         requires room { self.old.heap.len < room self.old.heap }
         requires fresh { (times x.node (waiting self.old) ≡ 0) × (x.node < length origins.old) }
-        ensures ready { Ready M.Order.leb origins.new self.new }
+        ensures ready { Ready origins.new self.new }
         ensures leaves { Joined self.old x self.new }
         ensures kept { Kept origins.old origins.new (waiting self.new) }
     {
@@ -109,8 +112,8 @@ impl<'a, M: Mark> Queue<'a, M> {
 
     // Takes a node that waits at a least level, and writes its origin.
     pub(crate) fn take(&mut self, origins: &mut [Option<usize>]) -> Option<Entry<M>>
-        requires ready { Ready M.Order.leb origins.old self.old }
-        ensures ready { Ready M.Order.leb origins.new self.new }
+        requires ready { Ready origins.old self.old }
+        ensures ready { Ready origins.new self.new }
         ensures leaves { Left M.Order.leb self.old origins.old result self.new origins.new }
     {
         let Some(x) = self.heap.take() else {
@@ -123,10 +126,10 @@ impl<'a, M: Mark> Queue<'a, M> {
 
     // Puts an entry in the place of the one that its node has, which is above it.
     pub(crate) fn lower(&mut self, origins: &mut [Option<usize>], x: Entry<M>)
-        requires ready { Ready M.Order.leb origins.old self.old }
+        requires ready { Ready origins.old self.old }
         requires waits { times x.node (waiting self.old) ≡ 1 }
         requires falls { AllByRecursion (λ y. y.node ≡ x.node → M.Order.leb y.level x.level ≡ false) (waiting self.old) }
-        ensures ready { Ready M.Order.leb origins.new self.new }
+        ensures ready { Ready origins.new self.new }
         ensures leaves { Replaced self.old x self.new }
         ensures kept { Kept origins.old origins.new (waiting self.new) }
     {

@@ -8,7 +8,7 @@ abbrev pub invariant-loop-from : goal.invariant-loop-from
 invariant-loop-from g l =
     let n = g.G.Ground.nodes l.ground in
     Going (graph_of g.G.Mark.Order g.G.Ground l.ground) l.levels l.origins (waiting l.queue)
-    × Roomy g.G.Mark.Order.leb n l.levels l.origins l.queue
+    × Roomy n l.levels l.origins l.queue
     × (drop n l.levels ≡ drop n l.initial.levels)
     × (drop n l.origins ≡ drop n l.initial.origins)
 

@@ -9,7 +9,7 @@ invariant-loop-from g l =
     let n = g.G.Ground.nodes l.ground in
     (l.queue.heap.len + missing n l.levels ≡ l.initial.queue.heap.len + missing n l.initial.levels)
     × Spreading (graph_of g.G.Mark.Order g.G.Ground l.ground) l.from l.place l.levels l.origins (waiting l.queue)
-    × Roomy g.G.Mark.Order.leb n l.levels l.origins l.queue
+    × Roomy n l.levels l.origins l.queue
     × (drop n l.levels ≡ drop n l.initial.levels)
     × (drop n l.origins ≡ drop n l.initial.origins)
 

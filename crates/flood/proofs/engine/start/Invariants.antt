@@ -10,7 +10,7 @@ invariant-loop-node g l =
     let n = g.G.Ground.nodes l.ground in
     (l.queue.heap.len + missing l.node l.levels ≡ l.node)
     × Filling (graph_of g.G.Mark.Order g.G.Ground l.ground) l.node l.levels l.origins (waiting l.queue)
-    × Ready g.G.Mark.Order.leb l.origins l.queue
+    × Ready l.origins l.queue
     × (n ≤ room l.queue.heap)
     × (drop n l.levels ≡ drop n l.initial.levels)
     × (drop n l.origins ≡ drop n l.initial.origins)

@@ -1,7 +1,7 @@
 use Rattle.std.proofs.Common.{◌≡◌, ℕ, ◌<◌, false, length, get_or, set, Some, None, Ok, sym, ◌∙◌, subst, arith, rules}
 use Rattle.std.specs.List.{slice_get}
 use Rattle.marks.specs.declared.refusal.Refusal.{Refusal}
-use Rattle.flood.specs.Heaps.{contents, Lowered, Sound}
+use Rattle.flood.specs.Heaps.{contents, Lowered}
 use Rattle.flood.specs.Entries.{before}
 use Rattle.flood.specs.Queues.{times}
 use Rattle.flood.proofs.Accepted.{lower_accepted, before_lower}
@@ -65,7 +65,6 @@ returns-in-Some g c =
     let same : (v : ℕ) → times v (contents h') ≡ times v (contents h₀) = λ v. times_shuffled v (set (contents h₀) place x) (contents h') did.0 ∙ times_set v (contents h₀) place x y is found.3 in
     record {
       ready = record {
-        order = c.lower.ensures.order (subst (Sound (before le)) (sym keep.same) c.requires.ready.order);
         single = single_long (c.follow.ensures.kept.long ∙ keep.kept.long) (single_replaced place x y (contents h') c.requires.ready.single is found.3 did.0);
         placed = c.follow.ensures.placed;
       };

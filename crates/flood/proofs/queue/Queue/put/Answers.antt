@@ -20,7 +20,6 @@ returns g c =
     let did = put_accepted h c.args.x c.put.result h' c.requires.room c.put.ensures.told c.put.ensures.leaves in
     record {
       ready = record {
-        order = c.put.ensures.order c.requires.ready.order;
         single = single_long c.follow.ensures.kept.long (single_joined c.args.x (contents h') c.requires.ready.single c.requires.fresh.0 c.requires.fresh.1 did.0);
         placed = c.follow.ensures.placed;
       };

@@ -36,16 +36,15 @@ returns g c =
     let x = c.in-Some.x in
     let did = c.in-Some.ensures in
     let left = single_left x (contents h') c.requires.ready.single did.leaves.0 in
-    let whole : length (contents h) ≡ h.len = simp length-take (omega (arith, c.requires.ready.order.within)) in
+    let whole : length (contents h) ≡ h.len = simp length-take (omega (arith, h.within)) in
     record {
       ready = record {
-        order = did.order c.requires.ready.order;
         single = single_long (c.follow.ensures.kept.long ∙ length-set os x.node (Some x.origin)) left.0;
         placed = c.follow.ensures.placed;
       };
       leaves = (
         did.leaves.0,
-        All-weaker (λ y. before le x y ≡ true) (λ y. le x.level y.level ≡ true) (λ y. before_level le x y) (contents h) (did.least c.requires.ready.order),
+        All-weaker (λ y. before le x y ≡ true) (λ y. le x.level y.level ≡ true) (λ y. before_level le x y) (contents h) did.least,
         sym whole ∙ did.leaves.1,
         did.leaves.2,
         c.follow.ensures.kept,
