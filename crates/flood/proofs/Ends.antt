@@ -1,13 +1,13 @@
 -- How a flood begins and ends, and what it counts. Assumes nothing.
-use Rattle.std.proofs.Common.{◌≡◌, ℕ, ◌+◌, ◌<◌, ◌≤◌, true, cond, not, List, [], ◌∷◌, length, get_or, take, set, is_some, Some, None, Option, sym, refl, ap, ◌∙◌, subst, inl, ⊎_elim, arith, length-take, get_or-set_other, get_or-take, get_or-set_same}
+use Rattle.std.proofs.Common.{◌≡◌, ℕ, zero, suc, ◌+◌, ◌-◌, ◌<◌, ◌≤◌, true, cond, not, List, [], ◌∷◌, length, get_or, take, set, is_some, Some, None, Option, sym, refl, ap, ◌∙◌, subst, inl, ⊎_elim, arith, length-take, get_or-set_other, get_or-take, get_or-set_same}
 use lib.Seq.{take-set-lt}
 use Rattle.std.specs.List.Sorted.{IsPermutation}
 use Rattle.std.proofs.ByRecursion.{All-weaker, all_shuffled}
 use Rattle.std.proofs.lemmas.List.{take_more_set}
-use Rattle.std.proofs.lemmas.List.Sums.{sum_by-set, sum_by_push}
+use Rattle.std.proofs.lemmas.List.Sums.{sum_by-cons, sum_by-set, sum_by_push}
 use Rattle.std.proofs.lemmas.Bool.{cases_eq}
 use Rattle.flood.specs.Grounds.{Graph, Drains, LeastWorst, Found, Flooded}
-use Rattle.flood.specs.Queues.{times, Kept}
+use Rattle.flood.specs.Places.{times, Kept}
 use Rattle.flood.specs.State.{missing, Reached, Cell, Going, Filling}
 use Rattle.flood.specs.declared.entry.Entry.{Entry}
 use Rattle.flood.proofs.Counts.{some_same, none_some, times_yes, times_no, times_none, times_shuffled}
@@ -32,6 +32,19 @@ missing_lowered n ls far c k low long some = omega (arith, rw some at (missing_s
 
 pub missing_push : {M : Type 0} (i : ℕ) (ls : List (Option M)) (x : Option M) → i < length ls → missing (i + 1) (set ls i x) ≡ missing i ls + lacks x
 missing_push i ls x h = rw (take_more_set ls i x h) (sum_by_push lacks (take i ls) x)
+
+lacks_le : {M : Type 0} (l : Option M) → lacks l ≤ 1
+lacks_le (Some x) = omega arith
+lacks_le None = omega arith
+
+-- no more nodes lack a level than there are
+pub missing_above : {M : Type 0} (i n : ℕ) (ls : List (Option M)) → i ≤ n → missing n ls ≤ missing i ls + (n - i)
+missing_above zero zero ls le = omega arith
+missing_above zero (suc n) [] le = omega arith
+missing_above zero (suc n) (l ∷ ls) le = omega (arith, sum_by-cons lacks l (take n ls), lacks_le l, missing_above 0 n ls (omega arith))
+missing_above (suc i) zero ls le = absurd (omega (arith, le))
+missing_above (suc i) (suc n) [] le = omega arith
+missing_above (suc i) (suc n) (l ∷ ls) le = omega (arith, sum_by-cons lacks l (take n ls), sum_by-cons lacks l (take i ls), missing_above i n ls (omega (arith, le)))
 
 -- the end
 
@@ -92,9 +105,9 @@ module _ {M : Type 0} {g : Graph M} (laws : Lawful g) where
         (cases_eq v i);
   }
 
-  pub fill_drain : {i : ℕ} {ls : List (Option M)} {os : List (Option ℕ)} {q : List (Entry M)} → (x : Entry M) (q' : List (Entry M)) → Filling g i ls os q → x.node ≡ i → x.origin ≡ i → i < length ls → i < length os → g.drain i ≡ Some x.level
-      → IsPermutation (x ∷ q) q' → Filling g (i + 1) (set ls i (Some x.level)) (set os i None) q'
-  fill_drain {i} {ls} {os} {q} x q' s node origin in-ls in-os is shuffle =
+  pub fill_drain : {i : ℕ} {ls : List (Option M)} {os : List (Option ℕ)} {q : List (Entry M)} → (x : Entry M) (q' : List (Entry M)) → Filling g i ls os q → x.node ≡ i → x.origin ≡ i → i < length ls → g.drain i ≡ Some x.level
+      → IsPermutation (x ∷ q) q' → Filling g (i + 1) (set ls i (Some x.level)) os q'
+  fill_drain {i} {ls} {os} {q} x q' s node origin in-ls is shuffle =
       let l = x.level in
       let count : (v : ℕ) → times v q' ≡ times v (x ∷ q) = λ v. times_shuffled v _ q' shuffle in
       let apart : times i q ≡ 0 = fill_apart s in
@@ -104,7 +117,7 @@ module _ {M : Type 0} {g : Graph M} (laws : Lawful g) where
       record {
         cells = λ v h none.
             let ne : v ≡ i → ⊥ = λ z. omega (arith, count-i, subst (λ n. times n q' ≡ 0) z none) in
-            rw (get_or-set_other ls i v (Some l) None ne, get_or-set_other os i v None None ne) (s.cells v (omega arith) (sym (count-other v ne) ∙ none));
+            rw (get_or-set_other ls i v (Some l) None ne) (s.cells v (omega arith) (sym (count-other v ne) ∙ none));
         waiting = all_shuffled _ _ q' shuffle (
           (omega arith, rw node (get_or-set_same ls i (Some l) None in-ls), rw (node, origin) reached),
           All-weaker _ _ (λ y h. let ne : y.node ≡ i → ⊥ = λ z. omega (arith, h.0) in (omega (arith, h.0), get_or-set_other ls i y.node (Some l) None ne ∙ h.1, h.2)) q s.waiting,

@@ -6,7 +6,7 @@ use crate::sift::{rise, sink};
 use marks::{Order, Refusal};
 
 // The places from `foot` up to `head`, each the parent of the one before.
-#[derive(Clone, Copy)]
+#[derive(Clone, Copy, Debug, PartialEq, Eq)]
 pub struct Path {
     pub foot: usize,
     pub head: usize,
