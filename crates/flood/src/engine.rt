@@ -21,6 +21,7 @@ fn start<G: Ground>(ground: &G, levels: &mut [Option<G::Mark>], queue: &mut Queu
     ensures stays { Stays (G.Ground.nodes ground.now) levels.old queue.old levels.new queue.new }
     ensures state { Between (graph_of G.Mark.Order G.Ground ground.now) levels.new queue.new }
 {
+    // The ground and the queue are asked by the number, too.
     for node in 0..ground.nodes() {
         let level = ground.drain(node);
         levels[node] = level;

@@ -24,6 +24,7 @@ pub(crate) fn note_all<M: Mark>(heap: &Heap<Entry<M>>, origins: &mut [Option<usi
     ensures placed { Placed origins.new (contents heap.now) }
     ensures kept { Kept origins.old origins.new (contents heap.now) }
 {
+    // What is noted is the place itself.
     for place in 0..heap.len() {
         note(heap, origins, place);
     }
@@ -39,6 +40,7 @@ fn note_path<M: Mark>(heap: &Heap<Entry<M>>, origins: &mut [Option<usize>])
     let path = heap.path();
     let mut place = path.foot;
     note(heap, origins, place);
+    // From parent to parent the place halves: no walk over the slots.
     while path.head < place {
         place = (place - 1) / 2;
         note(heap, origins, place);
