@@ -1,10 +1,10 @@
 -- How a flood begins and ends, and what it counts. Assumes nothing.
-use Rattle.std.proofs.Common.{◌≡◌, ℕ, zero, suc, ◌+◌, ◌-◌, ◌<◌, ◌≤◌, true, cond, not, List, [], ◌∷◌, length, get_or, take, set, is_some, Some, None, Option, sym, refl, ap, ◌∙◌, subst, inl, ⊎_elim, arith, length-take, get_or-set_other, get_or-take, get_or-set_same}
+use Rattle.std.proofs.Common.{◌≡◌, ℕ, ◌+◌, ◌<◌, ◌≤◌, true, cond, not, List, [], ◌∷◌, length, get_or, take, set, is_some, Some, None, Option, sym, refl, ap, ◌∙◌, subst, inl, ⊎_elim, arith, length-take, get_or-set_other, get_or-take, get_or-set_same}
 use lib.Seq.{take-set-lt}
 use Rattle.std.specs.List.Sorted.{IsPermutation}
 use Rattle.std.proofs.ByRecursion.{All-weaker, all_shuffled}
 use Rattle.std.proofs.lemmas.List.{take_more_set}
-use Rattle.std.proofs.lemmas.List.Sums.{sum_by-cons, sum_by-set, sum_by_push}
+use Rattle.std.proofs.lemmas.List.Sums.{sum_by-set, sum_by_push}
 use Rattle.std.proofs.lemmas.Bool.{cases_eq}
 use Rattle.flood.specs.Grounds.{Graph, Drains, LeastWorst, Found, Flooded}
 use Rattle.flood.specs.Places.{times, Kept}
@@ -32,19 +32,6 @@ missing_lowered n ls far c k low long some = omega (arith, rw some at (missing_s
 
 pub missing_push : {M : Type 0} (i : ℕ) (ls : List (Option M)) (x : Option M) → i < length ls → missing (i + 1) (set ls i x) ≡ missing i ls + lacks x
 missing_push i ls x h = rw (take_more_set ls i x h) (sum_by_push lacks (take i ls) x)
-
-lacks_le : {M : Type 0} (l : Option M) → lacks l ≤ 1
-lacks_le (Some x) = omega arith
-lacks_le None = omega arith
-
--- no more nodes lack a level than there are
-pub missing_above : {M : Type 0} (i n : ℕ) (ls : List (Option M)) → i ≤ n → missing n ls ≤ missing i ls + (n - i)
-missing_above zero zero ls le = omega arith
-missing_above zero (suc n) [] le = omega arith
-missing_above zero (suc n) (l ∷ ls) le = omega (arith, sum_by-cons lacks l (take n ls), lacks_le l, missing_above 0 n ls (omega arith))
-missing_above (suc i) zero ls le = absurd (omega (arith, le))
-missing_above (suc i) (suc n) [] le = omega arith
-missing_above (suc i) (suc n) (l ∷ ls) le = omega (arith, sum_by-cons lacks l (take n ls), sum_by-cons lacks l (take i ls), missing_above i n ls (omega (arith, le)))
 
 -- the end
 
@@ -81,9 +68,6 @@ filled s = record { cells = s.cells; waiting = s.waiting; once = s.once; settled
 
 pub filling_kept : {M : Type 0} {g : Graph M} {i : ℕ} {ls : List (Option M)} {os os' : List (Option ℕ)} {q : List (Entry M)} → Kept os os' q → Filling g i ls os q → Filling g i ls os' q
 filling_kept {g = g} {ls = ls} k s = record { cells = λ v h none. subst (Cell g v (get_or ls v None)) (sym (k.same v none)) (s.cells v h none); waiting = s.waiting; once = s.once; queued = s.queued }
-
-pub fill_none : {M : Type 0} (g : Graph M) (ls : List (Option M)) (os : List (Option ℕ)) → Filling g 0 ls os []
-fill_none g ls os = record { cells = λ v h none. absurd (omega arith); waiting = tt; once = λ v. omega arith; queued = λ v k h lv. absurd (omega arith) }
 
 module _ {M : Type 0} {g : Graph M} (laws : Lawful g) where
   -- no node from i on waits yet
