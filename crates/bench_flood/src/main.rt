@@ -35,9 +35,9 @@ fn run<S: Subject>(
 ) -> anyhow::Result<()> {
     let mut memory = Memory::new(rt.alloc(), nodes)?;
     for _ in 0..times {
-        if !subject.flood(&mut memory) {
-            return Err(anyhow!("refused"));
-        }
+        subject
+            .flood(&mut memory)
+            .map_err(|refusal| anyhow!("refused {}", refusal.number()))?;
     }
     let levels = memory.levels(rt.alloc())?;
     rt.stdout().write_all(levels.as_slice())?;

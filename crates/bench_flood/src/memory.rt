@@ -11,25 +11,12 @@ pub(crate) struct Memory {
     pub(crate) slots: Vec<Entry<Height>>,
 }
 
-// As many copies of a value.
-fn copies<T: Copy>(heap: Global, value: T, n: usize) -> Result<Vec<T>, AllocError> {
-    let mut all = Vec::with_capacity(heap, n)?;
-    for _ in 0..n {
-        all.push(value)?;
-    }
-    Ok(all)
-}
-
 // The heights that bytes hold, two for each.
 pub(crate) fn heights(heap: Global, bytes: &[u8]) -> Result<Vec<Height>, AllocError> {
-    let n = bytes.len() / 2;
-    let mut all = Vec::with_capacity(heap, n)?;
-    for i in 0..n {
-        let dm = i16::from_le_bytes([bytes[2 * i], bytes[2 * i + 1]]);
-        all.push(match Height::new(dm) {
-            Some(height) => height,
-            None => Height::void(),
-        })?;
+    let mut all = Vec::with_capacity(heap, bytes.len() / 2)?;
+    for pair in bytes.as_chunks::<2>().0 {
+        let dm = i16::from_le_bytes(*pair);
+        all.push(Height::new(dm).unwrap_or(Height::void()))?;
     }
     Ok(all)
 }
@@ -43,9 +30,9 @@ impl Memory {
             origin: 0,
         };
         Ok(Memory {
-            levels: copies(heap, None, nodes)?,
-            origins: copies(heap, None, nodes)?,
-            slots: copies(heap, entry, nodes)?,
+            levels: vec![in heap; None; nodes]?,
+            origins: vec![in heap; None; nodes]?,
+            slots: vec![in heap; entry; nodes]?,
         })
     }
 
@@ -53,13 +40,7 @@ impl Memory {
     pub(crate) fn levels(&self, heap: Global) -> Result<Vec<u8>, AllocError> {
         let mut bytes = Vec::new(heap);
         for level in self.levels.iter() {
-            let dm = match level {
-                Some(height) => match height.decimetres() {
-                    Some(dm) => dm,
-                    None => i16::MIN,
-                },
-                None => i16::MIN,
-            };
+            let dm = level.and_then(|height| height.decimetres()).unwrap_or(i16::MIN);
             bytes.extend_from_slice(&dm.to_le_bytes())?;
         }
         Ok(bytes)

@@ -35,11 +35,7 @@ fn on(nodes: usize, stride: usize, node: usize) -> usize
 fn level_at<M: Mark>(levels: &[M], place: usize) -> M
     ensures { result ≡ slice_index_or levels.now place M.Mark.lowest }
 {
-    if place < levels.len() {
-        levels[place]
-    } else {
-        M::void()
-    }
+    levels.get(place).copied().unwrap_or(M::void())
 }
 
 impl<'a, 'b, M: Mark> Ground for Ring<'a, 'b, M> {
@@ -78,10 +74,6 @@ impl<'a, 'b, M: Mark> Ground for Ring<'a, 'b, M> {
     }
 
     fn drain(&self, node: usize) -> Option<M> {
-        if node < self.nodes && node < self.outlets {
-            Some(level_at(self.near_levels, node))
-        } else {
-            None
-        }
+        (node < self.nodes && node < self.outlets).then(|| level_at(self.near_levels, node))
     }
 }

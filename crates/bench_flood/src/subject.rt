@@ -2,13 +2,12 @@
 use crate::memory::Memory;
 use crate::ring::Ring;
 use flood::flood;
-use marks::Height;
+use marks::{Height, Refusal};
 use terrain::flood_cells;
 
 // Something that can be flooded.
 pub(crate) trait Subject {
-    // Floods it, and says whether that was accepted.
-    fn flood(&self, memory: &mut Memory) -> bool;
+    fn flood(&self, memory: &mut Memory) -> Result<(), Refusal>;
 }
 
 // The cells of a sheet.
@@ -20,7 +19,7 @@ pub(crate) struct Cells {
 }
 
 impl Subject for Cells {
-    fn flood(&self, memory: &mut Memory) -> bool {
+    fn flood(&self, memory: &mut Memory) -> Result<(), Refusal> {
         flood_cells(
             self.rows,
             self.cols,
@@ -29,7 +28,6 @@ impl Subject for Cells {
             memory.origins.as_mut_slice(),
             memory.slots.as_mut_slice(),
         )
-        .is_ok()
     }
 }
 
@@ -44,7 +42,7 @@ pub(crate) struct Chords {
 }
 
 impl Subject for Chords {
-    fn flood(&self, memory: &mut Memory) -> bool {
+    fn flood(&self, memory: &mut Memory) -> Result<(), Refusal> {
         let (near_levels, wide_levels) = self.levels.as_slice().split_at(self.levels.len() / 2);
         let ring = Ring {
             nodes: self.nodes,
@@ -60,6 +58,5 @@ impl Subject for Chords {
             memory.origins.as_mut_slice(),
             memory.slots.as_mut_slice(),
         )
-        .is_ok()
     }
 }

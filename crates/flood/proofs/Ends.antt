@@ -7,7 +7,7 @@ use Rattle.std.proofs.lemmas.List.{take_more_set}
 use Rattle.std.proofs.lemmas.List.Sums.{sum_by-set, sum_by_push}
 use Rattle.std.proofs.lemmas.Bool.{cases_eq}
 use Rattle.flood.specs.Grounds.{Graph, Drains, LeastWorst, Found, Flooded}
-use Rattle.flood.specs.Queues.{times, Kept}
+use Rattle.flood.specs.Places.{times, Kept}
 use Rattle.flood.specs.State.{missing, Reached, Cell, Going, Filling}
 use Rattle.flood.specs.declared.entry.Entry.{Entry}
 use Rattle.flood.proofs.Counts.{some_same, none_some, times_yes, times_no, times_none, times_shuffled}
@@ -69,9 +69,6 @@ filled s = record { cells = s.cells; waiting = s.waiting; once = s.once; settled
 pub filling_kept : {M : Type 0} {g : Graph M} {i : ℕ} {ls : List (Option M)} {os os' : List (Option ℕ)} {q : List (Entry M)} → Kept os os' q → Filling g i ls os q → Filling g i ls os' q
 filling_kept {g = g} {ls = ls} k s = record { cells = λ v h none. subst (Cell g v (get_or ls v None)) (sym (k.same v none)) (s.cells v h none); waiting = s.waiting; once = s.once; queued = s.queued }
 
-pub fill_none : {M : Type 0} (g : Graph M) (ls : List (Option M)) (os : List (Option ℕ)) → Filling g 0 ls os []
-fill_none g ls os = record { cells = λ v h none. absurd (omega arith); waiting = tt; once = λ v. omega arith; queued = λ v k h lv. absurd (omega arith) }
-
 module _ {M : Type 0} {g : Graph M} (laws : Lawful g) where
   -- no node from i on waits yet
   pub fill_apart : {i : ℕ} {ls : List (Option M)} {os : List (Option ℕ)} {q : List (Entry M)} → Filling g i ls os q → times i q ≡ 0
@@ -92,9 +89,9 @@ module _ {M : Type 0} {g : Graph M} (laws : Lawful g) where
         (cases_eq v i);
   }
 
-  pub fill_drain : {i : ℕ} {ls : List (Option M)} {os : List (Option ℕ)} {q : List (Entry M)} → (x : Entry M) (q' : List (Entry M)) → Filling g i ls os q → x.node ≡ i → x.origin ≡ i → i < length ls → i < length os → g.drain i ≡ Some x.level
-      → IsPermutation (x ∷ q) q' → Filling g (i + 1) (set ls i (Some x.level)) (set os i None) q'
-  fill_drain {i} {ls} {os} {q} x q' s node origin in-ls in-os is shuffle =
+  pub fill_drain : {i : ℕ} {ls : List (Option M)} {os : List (Option ℕ)} {q : List (Entry M)} → (x : Entry M) (q' : List (Entry M)) → Filling g i ls os q → x.node ≡ i → x.origin ≡ i → i < length ls → g.drain i ≡ Some x.level
+      → IsPermutation (x ∷ q) q' → Filling g (i + 1) (set ls i (Some x.level)) os q'
+  fill_drain {i} {ls} {os} {q} x q' s node origin in-ls is shuffle =
       let l = x.level in
       let count : (v : ℕ) → times v q' ≡ times v (x ∷ q) = λ v. times_shuffled v _ q' shuffle in
       let apart : times i q ≡ 0 = fill_apart s in
@@ -104,7 +101,7 @@ module _ {M : Type 0} {g : Graph M} (laws : Lawful g) where
       record {
         cells = λ v h none.
             let ne : v ≡ i → ⊥ = λ z. omega (arith, count-i, subst (λ n. times n q' ≡ 0) z none) in
-            rw (get_or-set_other ls i v (Some l) None ne, get_or-set_other os i v None None ne) (s.cells v (omega arith) (sym (count-other v ne) ∙ none));
+            rw (get_or-set_other ls i v (Some l) None ne) (s.cells v (omega arith) (sym (count-other v ne) ∙ none));
         waiting = all_shuffled _ _ q' shuffle (
           (omega arith, rw node (get_or-set_same ls i (Some l) None in-ls), rw (node, origin) reached),
           All-weaker _ _ (λ y h. let ne : y.node ≡ i → ⊥ = λ z. omega (arith, h.0) in (omega (arith, h.0), get_or-set_other ls i y.node (Some l) None ne ∙ h.1, h.2)) q s.waiting,

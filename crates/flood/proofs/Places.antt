@@ -1,17 +1,16 @@
 -- Places that are noted, and what a queue keeps. Assumes nothing.
-use Rattle.std.proofs.Common.{◌≡◌, ℕ, ◌+◌, ◌-◌, ◌/◌, ◌<◌, ◌≤◌, Bool, ◌⊎◌, List, ◌∷◌, length, get_or, set, Some, None, Option, sym, refl, ◌∙◌, subst, inl, inr, ⊎_elim, arith, get_or-set_other, get_or-set_same, drop-set-lt}
+use Rattle.std.proofs.Common.{◌≡◌, ℕ, ◌+◌, ◌-◌, ◌/◌, ◌<◌, ◌≤◌, ◌⊎◌, List, ◌∷◌, length, get_or, set, Some, None, Option, sym, refl, ◌∙◌, subst, inl, inr, ⊎_elim, arith, get_or-set_other, get_or-set_same, drop-set-lt}
 use Rattle.std.specs.List.{slice_get}
 use Rattle.std.specs.List.Sorted.{IsPermutation}
-use Rattle.std.proofs.ByRecursion.{All-weaker, All-set, all_shuffled}
+use Rattle.std.proofs.ByRecursion.{All-set, all_shuffled}
 use Rattle.std.proofs.lemmas.List.{length-set}
 use Rattle.std.proofs.lemmas.Bool.{cases_eq}
 use Rattle.flood.specs.Orders.{Above, Above.stands, Above.climbs}
 use Rattle.flood.specs.Heaps.{contents, Traced}
-use Rattle.flood.specs.Queues.{times, waiting, Placed, HalfPlaced, Noted, Single, Ready, Kept}
+use Rattle.flood.specs.Places.{times, Placed, HalfPlaced, Noted, Single, Kept}
 use Rattle.flood.specs.declared.entry.Entry.{Entry}
 use Rattle.flood.specs.declared.heap.Heap.{Heap}
-use Rattle.flood.specs.declared.queue.Queue.{Queue}
-use Rattle.flood.proofs.Counts.{some_same, nth_inside, all_nth, times_yes, times_no, times_shuffled, times_some, times_set, one_place, all_times, times_found}
+use Rattle.flood.proofs.Counts.{some_same, nth_inside, all_nth, times_yes, times_no, times_shuffled, times_some, times_set, one_place, all_times, times_found, all_from_nth}
 
 pub kept_none : {M : Type 0} (os : List (Option ℕ)) (q : List (Entry M)) → Kept os os q
 kept_none os q = record { same = λ v h. refl; rest = λ n h. refl; long = refl }
@@ -20,13 +19,13 @@ pub kept_both : {M : Type 0} {os os' os'' : List (Option ℕ)} {q : List (Entry 
 kept_both a b = record { same = λ v h. b.same v h ∙ a.same v h; rest = λ n h. b.rest n h ∙ a.rest n h; long = b.long ∙ a.long }
 
 pub single_long : {M : Type 0} {os os' : List (Option ℕ)} {q : List (Entry M)} → length os' ≡ length os → Single os q → Single os' q
-single_long {os = os} {os' = os'} {q = q} e s = record { within = All-weaker _ (λ x. x.node < length os') (λ x h. omega (arith, h)) q s.within; once = s.once }
+single_long {os = os} {os' = os'} {q = q} e s = record { within = λ k x is. omega (arith, s.within k x is); once = s.once }
 
 -- noting one place
 pub noted : {M : Type 0} {os : List (Option ℕ)} {q : List (Entry M)} (k : ℕ) (x : Entry M) → Single os q → slice_get q k ≡ Some x
     → Noted os q k (set os x.node (Some k)) × Kept os (set os x.node (Some k)) q
 noted {os = os} {q = q} k x s is =
-    let low : x.node < length os = all_nth (λ y. y.node < length os) q k x s.within is in (
+    let low : x.node < length os = s.within k x is in (
       (
         λ y read. rw (← some_same (slice_get q k) x y is read) (get_or-set_same os x.node (Some k) None low),
         λ i y read ne. get_or-set_other os x.node y.node (Some k) None (λ e. ne (one_place q s.once i k y x read is e)),
@@ -76,7 +75,7 @@ pub path_over : {M : Type 0} (os : List (Option ℕ)) (q : List (Entry M)) (p he
 path_over os q p head le was k x is = ⊎_elim (λ e. e) (λ a. absurd (a.2 (omega (arith, above_le a.0, a.1)))) (was k x is)
 
 -- after a call of the heap
-pub half_placed : {M : Type 0} (os : List (Option ℕ)) (h h' : Heap (Entry M)) → Placed os (contents h) → Traced h h' → HalfPlaced os (contents h') h'.path.foot h'.path.head
+pub half_placed : {M : Type 0} {m : _} (os : List (Option ℕ)) (h h' : Heap (Entry M) m) → Placed os (contents h) → Traced h h' → HalfPlaced os (contents h') h'.path.foot h'.path.head
 half_placed os h h' was trace k x is = ⊎_elim (λ e. inl (was k x (sym e ∙ is))) (λ a. inr a) (trace k (nth_inside (contents h') k x is))
 
 -- the slot of a node that does not wait may be written
@@ -88,7 +87,7 @@ half_apart os q foot head v o none was k x is =
 -- one more, one less, and one for another
 pub single_joined : {M : Type 0} {os : List (Option ℕ)} {q : List (Entry M)} (x : Entry M) (q' : List (Entry M)) → Single os q → times x.node q ≡ 0 → x.node < length os → IsPermutation (x ∷ q) q' → Single os q'
 single_joined {os = os} {q = q} x q' s none low shuffle = record {
-  within = all_shuffled (λ y. y.node < length os) (x ∷ q) q' shuffle (low, s.within);
+  within = λ k y. all_nth (λ y. y.node < length os) q' k y (all_shuffled (λ y. y.node < length os) (x ∷ q) q' shuffle (low, all_from_nth (λ y. y.node < length os) q s.within));
   once = λ v. ⊎_elim
       (λ (e : x.node ≡ v). omega (arith, times_shuffled v (x ∷ q) q' shuffle, times_yes v x q e, subst (λ n. times n q ≡ 0) e none))
       (λ (ne : x.node ≡ v → ⊥). omega (arith, times_shuffled v (x ∷ q) q' shuffle, times_no v x q ne, s.once v))
@@ -97,9 +96,9 @@ single_joined {os = os} {q = q} x q' s none low shuffle = record {
 
 pub single_left : {M : Type 0} {os : List (Option ℕ)} {q : List (Entry M)} (x : Entry M) (q' : List (Entry M)) → Single os q → IsPermutation q (x ∷ q') → Single os q' × (times x.node q' ≡ 0) × (x.node < length os)
 single_left {os = os} {q = q} x q' s shuffle =
-    let all = all_shuffled (λ y. y.node < length os) q (x ∷ q') shuffle s.within in (
+    let all = all_shuffled (λ y. y.node < length os) q (x ∷ q') shuffle (all_from_nth (λ y. y.node < length os) q s.within) in (
       record {
-        within = all.1;
+        within = λ k y. all_nth (λ y. y.node < length os) q' k y all.1;
         once = λ v. ⊎_elim
             (λ (e : x.node ≡ v). omega (arith, times_shuffled v q (x ∷ q') shuffle, times_yes v x q' e, s.once v))
             (λ (ne : x.node ≡ v → ⊥). omega (arith, times_shuffled v q (x ∷ q') shuffle, times_no v x q' ne, s.once v))
@@ -111,7 +110,7 @@ single_left {os = os} {q = q} x q' s shuffle =
 
 pub single_replaced : {M : Type 0} {os : List (Option ℕ)} {q : List (Entry M)} (i : ℕ) (x y : Entry M) (q' : List (Entry M)) → Single os q → slice_get q i ≡ Some y → y.node ≡ x.node → IsPermutation (set q i x) q' → Single os q'
 single_replaced {os = os} {q = q} i x y q' s is e shuffle = record {
-  within = all_shuffled (λ z. z.node < length os) (set q i x) q' shuffle (All-set (λ z. z.node < length os) q i x (subst (λ n. n < length os) e (all_nth (λ z. z.node < length os) q i y s.within is)) s.within);
+  within = λ k z. all_nth (λ z. z.node < length os) q' k z (all_shuffled (λ z. z.node < length os) (set q i x) q' shuffle (All-set (λ z. z.node < length os) q i x (subst (λ n. n < length os) e (s.within i y is)) (all_from_nth (λ z. z.node < length os) q s.within)));
   once = λ v. omega (arith, times_shuffled v (set q i x) q' shuffle, times_set v q i x y is e, s.once v);
 }
 
@@ -122,14 +121,8 @@ kept_times {q = q} q' same k = record { same = λ v none. k.same v (sym (same v)
 pub node_low : {M : Type 0} (os : List (Option ℕ)) (q : List (Entry M)) (v : ℕ) → Single os q → times v q ≡ 1 → v < length os
 node_low os q v s one =
     let r = times_found v q (omega (arith, one)) in
-    subst (λ n. n < length os) r.3 (all_nth (λ y. y.node < length os) q r.0 r.1 s.within r.2)
+    subst (λ n. n < length os) r.3 (s.within r.0 r.1 r.2)
 
 -- the slot of a node that does not wait is free
-pub ready_apart : {M : Type 0} {leb : M → M → Bool} {os : List (Option ℕ)} {s : Queue M} (v : ℕ) (o : Option ℕ) → times v (waiting s) ≡ 0 → Ready leb os s → Ready leb (set os v o) s
-ready_apart {os = os} {s = s} v o none r = record {
-  order = r.order;
-  single = single_long (length-set os v o) r.single;
-  placed = λ on k x is.
-      let apart : x.node ≡ v → ⊥ = λ e. omega (arith, times_some v (waiting s) k x is e) in
-      get_or-set_other os v x.node o None apart ∙ r.placed on k x is;
-}
+pub placed_apart : {M : Type 0} (os : List (Option ℕ)) (q : List (Entry M)) (v : ℕ) (o : Option ℕ) → times v q ≡ 0 → Placed os q → Placed (set os v o) q
+placed_apart os q v o none was k x is = get_or-set_other os v x.node o None (λ e. omega (arith, times_some v q k x is e)) ∙ was k x is

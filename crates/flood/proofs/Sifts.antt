@@ -1,9 +1,9 @@
 -- Elements that rise and sink in a heap. Assumes nothing.
-use Rattle.std.proofs.Common.{◌≡◌, ℕ, zero, suc, ◌+◌, ◌-◌, ◌*◌, ◌/◌, ◌<◌, ◌≤◌, min, Bool, true, false, ◌⊎◌, List, [], ◌∷◌, ◌++◌, length, get_or, take, set, Some, None, sym, refl, ap, ◌∙◌, subst, inl, inr, arith, length-take}
+use Rattle.std.proofs.Common.{◌≡◌, ℕ, zero, suc, ◌+◌, ◌-◌, ◌*◌, ◌/◌, ◌<◌, ◌≤◌, Bool, true, false, ◌⊎◌, List, [], ◌∷◌, ◌++◌, length, get_or, take, set, Some, sym, refl, ap, ◌∙◌, subst, inl, inr, arith, length-take}
 use Rattle.std.specs.List.Sorted.{IsPermutation}
 use Rattle.std.specs.List.{AllByRecursion, slice_get}
 use Rattle.std.proofs.lemmas.List.{set-set, set_comm, length-set, get_or-take, get_or-set_same, get_or-set_other, length-take-le, take_more, take_more_set}
-use Rattle.std.proofs.lemmas.Option.{slice_get-get_or, slice_get_past}
+use Rattle.std.proofs.lemmas.Option.{slice_get-get_or, slice_get_within, get_or_from_slice_get}
 use Rattle.std.proofs.lemmas.List.Edits.{swap_is}
 use Rattle.std.proofs.ByRecursion.{All-from_get_or}
 use Rattle.std.proofs.lemmas.List.Sorted.{IsPermutation-swap, IsPermutation-refl, IsPermutation-trans, IsPermutation-to_front, IsPermutation-sym, IsPermutation-cons}
@@ -128,22 +128,11 @@ take_moves xs ys zs m foot s was = λ k d h. cases (cases_eq k 0)
     (λ e. inr (subst (Above foot) (sym e) (above_first foot foot (omega arith)), omega arith))
     (λ ne. cases (was k d h) (λ e. inl (e ∙ s.2 k d ne (omega arith))) (λ a. inr a))
 
--- what lies past the slice's end does not count
-pub take_min : {X : Type 0} (n : ℕ) (xs : List X) → take n xs ≡ take (min n (length xs)) xs
-take_min zero xs = let e : 0 ≡ min 0 (length xs) = omega arith in ap (λ m. take m xs) e
-take_min (suc n) [] = let e : 0 ≡ min (suc n) 0 = omega arith in ap (λ m. take m []) e
-take_min {X} (suc n) (x ∷ xs) =
-    let e : min (suc n) (length (x ∷ xs)) ≡ suc (min n (length xs)) = omega arith in
-    ap (λ (l : List X). x ∷ l) (take_min n xs) ∙ ap (λ m. take m (x ∷ xs)) (sym e)
-
 -- what stands at a place of the first n
-pub nth_front : {X : Type 0} (n i : ℕ) (xs : List X) (x : X) → i < min n (length xs) → x ≡ get_or xs i x → slice_get (take n xs) i ≡ Some x
-nth_front n i xs x lt is =
-    let long : i < length (take n xs) = simp length-take (omega arith) in
-    slice_get-get_or (take n xs) i x long ∙ ap Some (get_or-take n xs i x (omega arith) ∙ sym is)
-
-pub nth_behind : {X : Type 0} (n i : ℕ) (xs : List X) → min n (length xs) ≤ i → slice_get (take n xs) i ≡ None
-nth_behind n i xs le = slice_get_past (take n xs) i (simp length-take (omega arith))
+pub front : {X : Type 0} (n i : ℕ) (xs : List X) (x : X) → n ≤ length xs → slice_get (take n xs) i ≡ Some x → (i < n) × ((d : X) → get_or xs i d ≡ x)
+front n i xs x le is =
+    let lt : i < n = omega (arith, length-take-le n xs le, slice_get_within (take n xs) i x is) in
+    (lt, λ d. sym (get_or-take n xs i d lt) ∙ get_or_from_slice_get (take n xs) i x d is)
 
 -- what stands otherwise among the first n of ys than among the first m of xs stands on the path
 pub traced : {X : Type 0} (xs ys : List X) (m n foot head : ℕ) (d : X) → length ys ≡ length xs

@@ -9,7 +9,7 @@ use Rattle.std.proofs.lemmas.List.Sorted.{IsPermutation-refl, IsPermutation-cons
 use Rattle.std.proofs.lemmas.Bool.{cases_eq, cases_lt, both_ways}
 use Rattle.marks.specs.Orders.{highest}
 use Rattle.flood.specs.Grounds.{Graph}
-use Rattle.flood.specs.Queues.{times, Kept}
+use Rattle.flood.specs.Places.{times, Kept}
 use Rattle.flood.specs.State.{Met, Reached, Cell, Waits, Going, Spreading}
 use Rattle.flood.specs.declared.entry.Entry.{Entry}
 use Rattle.flood.proofs.Counts.{some_same, none_some, nth_inside, nth_is, all_nth, times_yes, times_no, times_shuffled, times_none, times_apart}

@@ -4,6 +4,8 @@ pub mod Entries
 pub mod Grounds
 pub mod Of
 pub mod Calls
+pub mod Places
 pub mod Queues
-pub mod State
 pub mod Lexical
+pub mod State
+pub mod Turns

@@ -3,10 +3,8 @@ use Rattle.std.specs.Prelude.{◌≡◌, ℕ, ◌+◌, ◌<◌, ◌≤◌, Bool,
 use Rattle.std.specs.List.{AllByRecursion, slice_get}
 use Rattle.marks.specs.Orders.{highest}
 use Rattle.flood.specs.Grounds.{Graph, Drains}
-use Rattle.flood.specs.Heaps.{room}
-use Rattle.flood.specs.Queues.{times, Ready}
+use Rattle.flood.specs.Places.{times}
 use Rattle.flood.specs.declared.entry.Entry.{Entry}
-use Rattle.flood.specs.declared.queue.Queue.{Queue}
 
 -- how many nodes below n have no level
 abbrev pub missing : {M : Type 0} → ℕ → List (Option M) → ℕ
@@ -63,9 +61,3 @@ pub record Filling {M : Type 0} (g : Graph M) (i : ℕ) (ls : List (Option M)) (
 abbrev pub onward : Bool → ℕ → ℕ
 onward true j = j + 1
 onward false j = j
-
--- the queue is in order, and has room for the nodes that have no level yet
-pub record Roomy {M : Type 0} (leb : M → M → Bool) (n : ℕ) (ls : List (Option M)) (os : List (Option ℕ)) (s : Queue M) : Type 0 where
-  pub ready : Ready leb os s
-  pub slots : n ≤ room s.heap
-  pub free : s.heap.len + missing n ls ≤ n

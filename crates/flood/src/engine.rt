@@ -1,46 +1,37 @@
 // The flood itself: Priority-Flood over any ground.
-ghost use Rattle.std.specs.Prelude.{◌≡◌, ◌+◌, ◌<◌, ◌≤◌, true, false, [], ◌∷◌, length, drop};
+ghost use Rattle.std.specs.Prelude.{◌≡◌, ◌<◌, ◌≤◌, true, false, [], ◌∷◌, length, drop};
 ghost use Rattle.marks.specs.Refusals.{told, checked};
 ghost use Rattle.flood.specs.Calls.{short, Leaves};
 ghost use Rattle.flood.specs.Grounds.{Flooded};
-ghost use Rattle.flood.specs.Heaps.{room};
 ghost use Rattle.flood.specs.Of.{graph_of};
-ghost use Rattle.flood.specs.Queues.{waiting, Ready};
-ghost use Rattle.flood.specs.State.{missing, onward, Going, Spreading, Roomy};
+ghost use Rattle.flood.specs.Queues.{waiting};
+ghost use Rattle.flood.specs.State.{onward};
+ghost use Rattle.flood.specs.Turns.{turns, Roomy, Between, Within, Stays};
 
 use crate::entry::Entry;
 use crate::ground::Ground;
+use crate::heap::Heap;
 use crate::queue::Queue;
 use marks::{Mark, Order, Refusal, higher};
 
 // Lets each node that drains wait at its drain level, and no other.
-fn start<G: Ground>(
-    ground: &G,
-    levels: &mut [Option<G::Mark>],
-    origins: &mut [Option<usize>],
-    queue: &mut Queue<G::Mark>,
-)
-    requires levels { G.Ground.nodes ground.now ≤ length levels.old }
-    requires origins { G.Ground.nodes ground.now ≤ length origins.old }
-    requires queue { Ready G.Mark.Order.leb origins.old queue.old × (waiting queue.old ≡ []) × (queue.old.heap.len ≡ 0) × (G.Ground.nodes ground.now ≤ room queue.old.heap) }
-    ensures rest { (drop (G.Ground.nodes ground.now) levels.new ≡ drop (G.Ground.nodes ground.now) levels.old) × (drop (G.Ground.nodes ground.now) origins.new ≡ drop (G.Ground.nodes ground.now) origins.old) }
-    ensures queue { Roomy G.Mark.Order.leb (G.Ground.nodes ground.now) levels.new origins.new queue.new }
-    ensures state { Going (graph_of G.Mark.Order G.Ground ground.now) levels.new origins.new (waiting queue.new) }
+fn start<G: Ground>(ground: &G, levels: &mut [Option<G::Mark>], queue: &mut Queue<G::Mark>)
+    requires room { Roomy (G.Ground.nodes ground.now) levels.old queue.old }
+    requires empty { (waiting queue.old ≡ []) × (queue.old.heap.now.len ≡ 0) }
+    ensures stays { Stays (G.Ground.nodes ground.now) levels.old queue.old levels.new queue.new }
+    ensures state { Between (graph_of G.Mark.Order G.Ground ground.now) levels.new queue.new }
 {
+    // The ground and the queue are asked by the number, too.
     for node in 0..ground.nodes() {
         let level = ground.drain(node);
         levels[node] = level;
-        origins[node] = None;
-        if let Some(level) = level {
-            let origin = node;
-            queue.put(
-                origins,
-                Entry {
-                    level,
-                    node,
-                    origin,
-                },
-            );
+        match level {
+            Some(level) => queue.put(Entry {
+                level,
+                node,
+                origin: node,
+            }),
+            None => queue.leave_out(node),
         }
     }
 }
@@ -49,51 +40,34 @@ fn start<G: Ground>(
 fn cross<G: Ground>(
     ground: &G,
     levels: &mut [Option<G::Mark>],
-    origins: &mut [Option<usize>],
     queue: &mut Queue<G::Mark>,
     from: Entry<G::Mark>,
     place: usize,
 ) -> bool
-    requires levels { G.Ground.nodes ground.now ≤ length levels.old }
-    requires origins { G.Ground.nodes ground.now ≤ length origins.old }
-    requires queue { Roomy G.Mark.Order.leb (G.Ground.nodes ground.now) levels.old origins.old queue.old }
-    requires state { Spreading (graph_of G.Mark.Order G.Ground ground.now) from place levels.old origins.old (waiting queue.old) }
-    ensures rest { (drop (G.Ground.nodes ground.now) levels.new ≡ drop (G.Ground.nodes ground.now) levels.old) × (drop (G.Ground.nodes ground.now) origins.new ≡ drop (G.Ground.nodes ground.now) origins.old) }
+    requires { Within (graph_of G.Mark.Order G.Ground ground.now) from place levels.old queue.old }
+    ensures stays { Stays (G.Ground.nodes ground.now) levels.old queue.old levels.new queue.new }
     ensures done { (result ≡ true → place < length (G.Ground.crossings ground.now from.node)) × (result ≡ false → length (G.Ground.crossings ground.now from.node) ≤ place) }
-    ensures count { queue.new.heap.len + missing (G.Ground.nodes ground.now) levels.new ≡ queue.old.heap.len + missing (G.Ground.nodes ground.now) levels.old }
-    ensures queue { Roomy G.Mark.Order.leb (G.Ground.nodes ground.now) levels.new origins.new queue.new }
-    ensures state { Spreading (graph_of G.Mark.Order G.Ground ground.now) from (onward result place) levels.new origins.new (waiting queue.new) }
+    ensures turns { turns (G.Ground.nodes ground.now) levels.new queue.new ≡ turns (G.Ground.nodes ground.now) levels.old queue.old }
+    ensures state { Within (graph_of G.Mark.Order G.Ground ground.now) from (onward result place) levels.new queue.new }
 {
     let Some(crossing) = ground.crossing(from.node, place) else {
         return false;
     };
-    let node = crossing.0;
-    let level = higher(crossing.1, from.level);
-    let origin = from.origin;
-    let known = levels[node];
+    let x = Entry {
+        level: higher(crossing.1, from.level),
+        node: crossing.0,
+        origin: from.origin,
+    };
+    let known = levels[x.node];
     match known {
         None => {
-            levels[node] = Some(level);
-            queue.put(
-                origins,
-                Entry {
-                    level,
-                    node,
-                    origin,
-                },
-            );
+            levels[x.node] = Some(x.level);
+            queue.put(x);
         }
         Some(old) => {
-            if !old.at_most(&level) {
-                levels[node] = Some(level);
-                queue.lower(
-                    origins,
-                    Entry {
-                        level,
-                        node,
-                        origin,
-                    },
-                );
+            if !old.at_most(&x.level) {
+                levels[x.node] = Some(x.level);
+                queue.lower(x);
             }
         }
     }
@@ -104,21 +78,17 @@ fn cross<G: Ground>(
 fn spread<G: Ground>(
     ground: &G,
     levels: &mut [Option<G::Mark>],
-    origins: &mut [Option<usize>],
     queue: &mut Queue<G::Mark>,
     from: Entry<G::Mark>,
 )
-    requires levels { G.Ground.nodes ground.now ≤ length levels.old }
-    requires origins { G.Ground.nodes ground.now ≤ length origins.old }
-    requires queue { Roomy G.Mark.Order.leb (G.Ground.nodes ground.now) levels.old origins.old queue.old }
-    requires state { Spreading (graph_of G.Mark.Order G.Ground ground.now) from 0 levels.old origins.old (waiting queue.old) }
-    ensures rest { (drop (G.Ground.nodes ground.now) levels.new ≡ drop (G.Ground.nodes ground.now) levels.old) × (drop (G.Ground.nodes ground.now) origins.new ≡ drop (G.Ground.nodes ground.now) origins.old) }
-    ensures count { queue.new.heap.len + missing (G.Ground.nodes ground.now) levels.new ≡ queue.old.heap.len + missing (G.Ground.nodes ground.now) levels.old }
-    ensures queue { Roomy G.Mark.Order.leb (G.Ground.nodes ground.now) levels.new origins.new queue.new }
-    ensures state { Going (graph_of G.Mark.Order G.Ground ground.now) levels.new origins.new (waiting queue.new) }
+    requires { Within (graph_of G.Mark.Order G.Ground ground.now) from 0 levels.old queue.old }
+    ensures stays { Stays (G.Ground.nodes ground.now) levels.old queue.old levels.new queue.new }
+    ensures turns { turns (G.Ground.nodes ground.now) levels.new queue.new ≡ turns (G.Ground.nodes ground.now) levels.old queue.old }
+    ensures state { Between (graph_of G.Mark.Order G.Ground ground.now) levels.new queue.new }
 {
+    // A ground does not say how many crossings a node has: the first place without one ends the turn.
     let mut place = 0;
-    while cross(ground, levels, origins, queue, from, place) {
+    while cross(ground, levels, queue, from, place) {
         place += 1;
     }
 }
@@ -130,16 +100,15 @@ fn run<G: Ground>(
     origins: &mut [Option<usize>],
     slots: &mut [Entry<G::Mark>],
 )
-    requires levels { G.Ground.nodes ground.now ≤ length levels.old }
-    requires origins { G.Ground.nodes ground.now ≤ length origins.old }
-    requires slots { G.Ground.nodes ground.now ≤ length slots.old }
+    requires { (G.Ground.nodes ground.now ≤ length levels.old) × (G.Ground.nodes ground.now ≤ length origins.old) × (G.Ground.nodes ground.now ≤ length slots.old) }
     ensures rest { (drop (G.Ground.nodes ground.now) levels.new ≡ drop (G.Ground.nodes ground.now) levels.old) × (drop (G.Ground.nodes ground.now) origins.new ≡ drop (G.Ground.nodes ground.now) origins.old) }
     ensures found { Flooded (graph_of G.Mark.Order G.Ground ground.now) levels.new origins.new }
 {
-    let mut queue = Queue::new(slots);
-    start(ground, levels, origins, &mut queue);
-    while let Some(from) = queue.take(origins) {
-        spread(ground, levels, origins, &mut queue, from);
+    let mut heap = Heap::new(slots);
+    let mut queue = Queue::new(&mut heap, origins);
+    start(ground, levels, &mut queue);
+    while let Some(from) = queue.take() {
+        spread(ground, levels, &mut queue, from);
     }
 }
 

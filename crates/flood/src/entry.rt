@@ -7,7 +7,7 @@ ghost use Rattle.std.proofs.Common.{rules};
 use marks::Order;
 
 // A node that waits, with its level and its origin so far.
-#[derive(Clone, Copy)]
+#[derive(Clone, Copy, Debug, PartialEq, Eq)]
 pub struct Entry<M> {
     pub level: M,
     pub node: usize,
@@ -33,9 +33,6 @@ impl<M: Order> Order for Entry<M> {
         if !other.level.at_most(&self.level) {
             return true;
         }
-        if self.node != other.node {
-            return self.node < other.node;
-        }
-        self.origin <= other.origin
+        (self.node, self.origin) <= (other.node, other.origin)
     }
 }

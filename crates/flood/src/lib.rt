@@ -5,6 +5,7 @@ mod engine;
 mod entry;
 mod ground;
 mod heap;
+mod notes;
 mod queue;
 mod sift;
 

@@ -1,141 +1,119 @@
 // The nodes that wait, in a heap of entries.
-ghost use Rattle.std.specs.Prelude.{◌≡◌, ℕ, ◌<◌, true, false, List, [], length, Option};
-ghost use Rattle.std.specs.List.{AllByRecursion};
-ghost use Rattle.flood.specs.Heaps.{contents, room};
-ghost use Rattle.flood.specs.Queues.{times, waiting, Noted, Placed, HalfPlaced, Single, Ready, Kept, Joined, Left, Replaced};
+ghost use Rattle.std.specs.Prelude.{◌≡◌, true};
+ghost use Rattle.std.proofs.Props.{props};
+ghost use Rattle.flood.specs.Heaps.{contents};
+ghost use Rattle.flood.specs.Places.{Single, Placed};
 
 use crate::entry::Entry;
 use crate::heap::Heap;
+use crate::notes::{follow, note_all};
 use marks::{Mark, Order};
 
 // A heap of entries. Where a node that waits stands in it is asked only when its entry is lowered, which many grounds
 // never do. So places are kept from the first lowering on: each in the slot in which its node's origin will stand, which
 // nobody reads before the node leaves the queue.
 #[derive(Drop)]
-pub struct Queue<'a, M: Mark> {
-    heap: Heap<'a, Entry<M>>,
+pub struct Queue<'h, 'a, 'b, M: Mark>
+where
+    Entry<M>: Order,
+{
+    heap: &'h mut Heap<'a, Entry<M>>,
+    origins: &'b mut [Option<usize>],
     placed: bool,
+    ghost single: { Single origins.now (contents heap.now) },
+    ghost right: { placed ≡ true → Placed origins.now (contents heap.now) } by { Prim.hlevel props },
 }
 
-// Writes the place of the entry that stands there, if one does, to its node's slot.
-fn note<M: Mark>(heap: &Heap<Entry<M>>, origins: &mut [Option<usize>], place: usize)
-    requires { Single origins.old (contents heap.now) }
-    ensures noted { Noted origins.old (contents heap.now) place origins.new }
-    ensures kept { Kept origins.old origins.new (contents heap.now) }
-{
-    if let Some(x) = heap.look(place) {
-        origins[x.node] = Some(place);
-    }
-}
+impl<'h, 'a, 'b, M: Mark> Queue<'h, 'a, 'b, M> {
+    ghost use Rattle.std.specs.Prelude.{ℕ, ◌<◌, false, List, [], length, None, Option, slice_set};
+    ghost use Rattle.std.specs.List.{AllByRecursion};
+    ghost use Rattle.flood.specs.Heaps.{room};
+    ghost use Rattle.flood.specs.Places.{times, Kept};
+    ghost use Rattle.flood.specs.Queues.{waiting, Joined, Left, Replaced};
 
-// Notes the places of all entries.
-fn note_all<M: Mark>(heap: &Heap<Entry<M>>, origins: &mut [Option<usize>])
-    requires { Single origins.old (contents heap.now) }
-    ensures placed { Placed origins.new (contents heap.now) }
-    ensures kept { Kept origins.old origins.new (contents heap.now) }
-{
-    for place in 0..heap.len() {
-        note(heap, origins, place);
-    }
-}
-
-// Notes the places on which the heap's last call moved entries.
-fn note_path<M: Mark>(heap: &Heap<Entry<M>>, origins: &mut [Option<usize>])
-    requires single { Single origins.old (contents heap.now) }
-    requires half { HalfPlaced origins.old (contents heap.now) heap.now.path.foot heap.now.path.head }
-    ensures placed { Placed origins.new (contents heap.now) }
-    ensures kept { Kept origins.old origins.new (contents heap.now) }
-{
-    let path = heap.path();
-    let mut place = path.foot;
-    note(heap, origins, place);
-    while path.head < place {
-        place = (place - 1) / 2;
-        note(heap, origins, place);
-    }
-}
-
-impl<'a, M: Mark> Queue<'a, M> {
-    // An empty queue in the slots.
-    pub(crate) fn new(slots: &'a mut [Entry<M>]) -> Queue<'a, M>
-        ensures ready { (os : List (Option ℕ)) → Ready M.Order.leb os result }
-        ensures value { (waiting result ≡ []) × (result.heap.len ≡ 0) × (room result.heap ≡ length slots.old) }
+    // An empty queue in a heap that holds nothing.
+    pub(crate) fn new(
+        heap: &'h mut Heap<'a, Entry<M>>,
+        origins: &'b mut [Option<usize>],
+    ) -> Queue<'h, 'a, 'b, M>
+        requires { contents heap.old ≡ [] }
+        ensures heap { result.heap ≡ heap.entry }
+        ensures origins { result.origins ≡ origins.entry }
     {
         Queue {
-            heap: Heap::new(slots),
+            heap,
+            origins,
             placed: false,
         }
     }
 
-    // Notes, where places are kept, those on which the heap's last call moved entries.
-    fn follow(&self, origins: &mut [Option<usize>])
-        requires single { Single origins.old (waiting self.now) }
-        requires half { self.now.placed ≡ true → HalfPlaced origins.old (waiting self.now) self.now.heap.path.foot self.now.heap.path.head }
-        ensures placed { self.now.placed ≡ true → Placed origins.new (waiting self.now) }
-        ensures kept { Kept origins.old origins.new (waiting self.now) }
+    // Writes that a node which does not wait has no origin.
+    pub(crate) fn leave_out(&mut self, node: usize)
+        requires { (times node (waiting self.old) ≡ 0) × (node < length self.old.origins.now) }
+        ensures origins { self.new.origins.now ≡ slice_set self.old.origins.now node None }
+        ensures same { self.new.heap.now ≡ self.old.heap.now }
+        ensures loans { (self.new.heap.ghost_name ≡ self.old.heap.ghost_name) × (self.new.origins.ghost_name ≡ self.old.origins.ghost_name) }
     {
-        if self.placed {
-            note_path(&self.heap, origins);
-        }
+        self.origins[node] = None;
     }
 
     // Keeps places from now on.
-    fn keep_places(&mut self, origins: &mut [Option<usize>])
-        requires ready { Ready M.Order.leb origins.old self.old }
-        ensures placed { (Placed origins.new (waiting self.old)) × (self.new.placed ≡ true) }
-        ensures same { self.new.heap ≡ self.old.heap }
-        ensures kept { Kept origins.old origins.new (waiting self.old) }
+    fn keep_places(&mut self)
+        ensures placed { self.new.placed ≡ true }
+        ensures same { self.new.heap.now ≡ self.old.heap.now }
+        ensures kept { Kept self.old.origins.now self.new.origins.now (waiting self.old) }
+        ensures loans { (self.new.heap.ghost_name ≡ self.old.heap.ghost_name) × (self.new.origins.ghost_name ≡ self.old.origins.ghost_name) }
     {
         if self.placed {
             return;
         }
-        note_all(&self.heap, origins);
+        let heap = &mut *self.heap;
+        let origins = &mut *self.origins;
+        note_all(heap, origins);
         self.placed = true;
     }
 
     // Lets a node wait that does not.
-    pub(crate) fn put(&mut self, origins: &mut [Option<usize>], x: Entry<M>)
-        requires ready { Ready M.Order.leb origins.old self.old }
-        requires room { self.old.heap.len < room self.old.heap }
-        requires fresh { (times x.node (waiting self.old) ≡ 0) × (x.node < length origins.old) }
-        ensures ready { Ready M.Order.leb origins.new self.new }
+    pub(crate) fn put(&mut self, x: Entry<M>)
+        requires room { self.old.heap.now.len < room self.old.heap.now }
+        requires fresh { (times x.node (waiting self.old) ≡ 0) × (x.node < length self.old.origins.now) }
         ensures leaves { Joined self.old x self.new }
-        ensures kept { Kept origins.old origins.new (waiting self.new) }
+        ensures loans { (self.new.heap.ghost_name ≡ self.old.heap.ghost_name) × (self.new.origins.ghost_name ≡ self.old.origins.ghost_name) }
     {
+        let heap = &mut *self.heap;
+        let origins = &mut *self.origins;
         // There is room.
-        let _ = self.heap.put(x);
-        self.follow(origins);
+        let _ = heap.put(x);
+        follow(heap, origins, self.placed);
     }
 
     // Takes a node that waits at a least level, and writes its origin.
-    pub(crate) fn take(&mut self, origins: &mut [Option<usize>]) -> Option<Entry<M>>
-        requires ready { Ready M.Order.leb origins.old self.old }
-        ensures ready { Ready M.Order.leb origins.new self.new }
-        ensures leaves { Left M.Order.leb self.old origins.old result self.new origins.new }
+    pub(crate) fn take(&mut self) -> Option<Entry<M>>
+        ensures leaves { Left M.Order.leb self.old result self.new }
+        ensures loans { (self.new.heap.ghost_name ≡ self.old.heap.ghost_name) × (self.new.origins.ghost_name ≡ self.old.origins.ghost_name) }
     {
-        let Some(x) = self.heap.take() else {
-            return None;
-        };
+        let heap = &mut *self.heap;
+        let origins = &mut *self.origins;
+        let x = heap.take()?;
         origins[x.node] = Some(x.origin);
-        self.follow(origins);
+        follow(heap, origins, self.placed);
         Some(x)
     }
 
     // Puts an entry in the place of the one that its node has, which is above it.
-    pub(crate) fn lower(&mut self, origins: &mut [Option<usize>], x: Entry<M>)
-        requires ready { Ready M.Order.leb origins.old self.old }
+    pub(crate) fn lower(&mut self, x: Entry<M>)
         requires waits { times x.node (waiting self.old) ≡ 1 }
         requires falls { AllByRecursion (λ y. y.node ≡ x.node → M.Order.leb y.level x.level ≡ false) (waiting self.old) }
-        ensures ready { Ready M.Order.leb origins.new self.new }
         ensures leaves { Replaced self.old x self.new }
-        ensures kept { Kept origins.old origins.new (waiting self.new) }
+        ensures loans { (self.new.heap.ghost_name ≡ self.old.heap.ghost_name) × (self.new.origins.ghost_name ≡ self.old.origins.ghost_name) }
     {
-        self.keep_places(origins);
-        let known = origins[x.node];
-        if let Some(place) = known {
+        self.keep_places();
+        let heap = &mut *self.heap;
+        let origins = &mut *self.origins;
+        if let Some(place) = origins[x.node] {
             // What stands there is above it.
-            let _ = self.heap.lower(place, x);
-            self.follow(origins);
+            let _ = heap.lower(place, x);
+            follow(heap, origins, self.placed);
         }
     }
 }

@@ -13,6 +13,7 @@ pub(crate) fn rise<E: Order>(slots: &mut [E], mut at: usize) -> usize
     ensures moves { (((n : ℕ) → Moves slots.old slots.new n «at» result)) × (result ≤ «at») }
 {
     let x = slots[at];
+    // From parent to parent the place halves: no walk over the slice.
     while 0 < at {
         let up = (at - 1) / 2;
         let parent = slots[up];
@@ -36,6 +37,7 @@ pub(crate) fn sink<E: Order>(slots: &mut [E], len: usize) -> usize
 {
     let x = slots[0];
     let mut at = 0;
+    // From child to child the place doubles: no walk over the slice.
     while at < len / 2 {
         let child = lesser_child(slots, at, len);
         let lesser = slots[child];

@@ -5,9 +5,24 @@ use std::test::Fail;
 
 // A height, or a test that fails.
 fn height(dm: i16) -> Result<Height, Fail> {
-    match Height::new(dm) {
-        Some(h) => Ok(h),
-        None => Err(Fail::new("void")),
+    Ok(Height::new(dm).ok_or("void")?)
+}
+
+// A node that is its own origin.
+fn waits<M: Mark>(level: M, node: usize) -> Entry<M> {
+    Entry {
+        level,
+        node,
+        origin: node,
+    }
+}
+
+// A pond of classes.
+fn wet_pond() -> Pond<Class> {
+    Pond {
+        low: Class::Open,
+        mid: Class::Wet,
+        high: Class::Kept,
     }
 }
 
@@ -19,11 +34,7 @@ fn heights(rt: HostRuntime) -> Result<(), Fail> {
     let high = height(9)?;
     let mut levels = [Some(high); 6];
     let mut origins = [Some(77); 6];
-    let mut slots = [Entry {
-        level: Height::void(),
-        node: 0,
-        origin: 0,
-    }; 5];
+    let mut slots = [waits(Height::void(), 0); 5];
     flood(
         &Pond { low, mid, high },
         &mut levels,
@@ -46,18 +57,10 @@ fn heights(rt: HostRuntime) -> Result<(), Fail> {
 // One slot too few is refused, and nothing is written.
 #[test]
 fn classes(rt: HostRuntime) -> Result<(), Fail> {
-    let pond = Pond {
-        low: Class::Open,
-        mid: Class::Wet,
-        high: Class::Kept,
-    };
+    let pond = wet_pond();
     let mut levels = [Some(Class::Void); 5];
     let mut origins = [Some(77); 5];
-    let mut slots = [Entry {
-        level: Class::Void,
-        node: 0,
-        origin: 0,
-    }; 5];
+    let mut slots = [waits(Class::Void, 0); 5];
     assert_eq!(rt;
         flood(&pond, &mut levels, &mut origins, &mut slots[..4]),
         Err(Refusal::ScratchShort)
@@ -72,21 +75,9 @@ fn classes(rt: HostRuntime) -> Result<(), Fail> {
 // Entries come out by level; a third is refused, and so is raising one.
 #[test]
 fn heap(rt: HostRuntime) -> Result<(), Fail> {
-    let mut slots = [Entry {
-        level: Class::Void,
-        node: 0,
-        origin: 0,
-    }; 2];
-    let wet = Entry {
-        level: Class::Wet,
-        node: 1,
-        origin: 1,
-    };
-    let peat = Entry {
-        level: Class::Peat,
-        node: 2,
-        origin: 2,
-    };
+    let mut slots = [waits(Class::Void, 0); 2];
+    let wet = waits(Class::Wet, 1);
+    let peat = waits(Class::Peat, 2);
     let mut heap = Heap::new(&mut slots);
     assert!(rt; heap.take().is_none());
     heap.put(peat)?;
@@ -95,30 +86,17 @@ fn heap(rt: HostRuntime) -> Result<(), Fail> {
     assert!(rt; heap.look(2).is_none());
     assert_eq!(rt; heap.lower(0, peat), Err(Refusal::NoLowering));
     assert_eq!(rt; heap.lower(2, wet), Err(Refusal::NoLowering));
-    match heap.take() {
-        Some(x) => {
-            assert_eq!(rt; x.node, 1);
-            Ok(())
-        },
-        None => Err(Fail::new("empty")),
-    }
+    assert_eq!(rt; heap.take().ok_or("empty")?.node, 1);
+    Ok(())
 }
 
 // One level or origin too few is refused.
 #[test]
 fn too_few(rt: HostRuntime) {
-    let pond = Pond {
-        low: Class::Open,
-        mid: Class::Wet,
-        high: Class::Kept,
-    };
+    let pond = wet_pond();
     let mut levels = [Some(Class::Void); 5];
     let mut origins = [Some(77); 5];
-    let mut slots = [Entry {
-        level: Class::Void,
-        node: 0,
-        origin: 0,
-    }; 5];
+    let mut slots = [waits(Class::Void, 0); 5];
     assert_eq!(rt;
         flood(&pond, &mut levels[..4], &mut origins, &mut slots),
         Err(Refusal::ScratchShort)
@@ -132,35 +110,14 @@ fn too_few(rt: HostRuntime) {
 // The higher of two entries of heights is lowered below the other, and comes out first.
 #[test]
 fn lowering(rt: HostRuntime) -> Result<(), Fail> {
-    let mut slots = [Entry {
-        level: Height::void(),
-        node: 0,
-        origin: 0,
-    }; 2];
+    let mut slots = [waits(Height::void(), 0); 2];
     let mut heap = Heap::new(&mut slots);
-    let five = Entry {
-        level: height(5)?,
-        node: 1,
-        origin: 1,
-    };
-    let seven = Entry {
-        level: height(7)?,
-        node: 2,
-        origin: 2,
-    };
-    let below = Entry {
-        level: height(-2)?,
-        node: 2,
-        origin: 2,
-    };
+    let five = waits(height(5)?, 1);
+    let seven = waits(height(7)?, 2);
+    let below = waits(height(-2)?, 2);
     heap.put(five)?;
     heap.put(seven)?;
     heap.lower(1, below)?;
-    match heap.take() {
-        Some(x) => {
-            assert_eq!(rt; x.node, 2);
-            Ok(())
-        },
-        None => Err(Fail::new("empty")),
-    }
+    assert_eq!(rt; heap.take().ok_or("empty")?.node, 2);
+    Ok(())
 }

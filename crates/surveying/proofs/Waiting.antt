@@ -4,7 +4,7 @@ use Rattle.std.specs.List.Sorted.{IsPermutation}
 use Rattle.std.specs.List.{AllByRecursion}
 use Rattle.std.proofs.ByRecursion.{All-weaker, all_shuffled}
 use Rattle.std.proofs.lemmas.Bool.{cases_eq}
-use Rattle.flood.specs.Queues.{times}
+use Rattle.flood.specs.Places.{times}
 use Rattle.flood.specs.declared.entry.Entry.{Entry}
 use Rattle.flood.proofs.Counts.{some_same, times_yes, times_no, times_none, times_shuffled}
 use Rattle.marks.specs.Orders.{OrderLaws, highest}

@@ -1,7 +1,7 @@
 -- How the passes of a flooded tile are chosen: its cells are taken in rising order of level, and looked at from each are the cells around it. Assumes nothing.
 use Rattle.std.specs.Prelude.{◌≡◌, ℕ, ◌+◌, ◌*◌, ◌/◌, ◌%◌, ◌<◌, ◌≤◌, true, ◌⊎◌, List, [], ◌∷◌, map, length, get_or, take, Some, None, Option, ◌≢◌, slice_index_or, slice_set}
 use Rattle.std.specs.List.{AllByRecursion, slice_get}
-use Rattle.flood.specs.Queues.{times}
+use Rattle.flood.specs.Places.{times}
 use Rattle.flood.specs.declared.entry.Entry.{Entry}
 use Rattle.sheets.specs.Grids.{Grid}
 use Rattle.terrain.specs.Terrains.{Kind}

@@ -1,7 +1,6 @@
 // Linking a tile's mouths by passes: its cells are taken in rising order of level.
 ghost use Rattle.std.specs.Prelude.{◌≡◌, ℕ, ◌+◌, ◌-◌, ◌^◌, ◌<◌, ◌≤◌, [], length};
-ghost use Rattle.flood.specs.Entries.{before};
-ghost use Rattle.flood.specs.Heaps.{Sound, contents, room};
+ghost use Rattle.flood.specs.Heaps.{contents, room};
 ghost use Rattle.terrain.specs.Terrains.{kind_of};
 ghost use Rattle.tiles.specs.Plans.{area_of, height, width};
 ghost use Rattle.tiles.specs.Mouths.{border};
@@ -23,9 +22,9 @@ fn enter<M: Mark>(
     heap: &mut Heap<Entry<M>>,
 )
     requires slices { (cells_of (area_of block.now) ≤ length levels.now) × (cells_of (area_of block.now) ≤ length origins.now) × (node < cells_of (area_of block.now)) }
-    requires heap { (heap.old.len ≤ node) × (cells_of (area_of block.now) ≤ room heap.old) × Sound (before M.Order.leb) heap.old }
+    requires heap { (heap.old.len ≤ node) × (cells_of (area_of block.now) ≤ room heap.old) }
     requires lined { Lined (kind_of M.Order M.Mark.lowest) (area_of block.now) levels.now origins.now node (contents heap.old) }
-    ensures heap { (heap.new.len ≤ node + 1) × (cells_of (area_of block.now) ≤ room heap.new) × Sound (before M.Order.leb) heap.new }
+    ensures heap { (heap.new.len ≤ node + 1) × (cells_of (area_of block.now) ≤ room heap.new) }
     ensures lined { Lined (kind_of M.Order M.Mark.lowest) (area_of block.now) levels.now origins.now (node + 1) (contents heap.new) }
 {
     let reached = levels[node];
@@ -52,9 +51,8 @@ fn line_up<M: Mark>(
     heap: &mut Heap<Entry<M>>,
 )
     requires slices { (cells_of (area_of block.now) ≤ length levels.now) × (cells_of (area_of block.now) ≤ length origins.now) }
-    requires heap { (contents heap.old ≡ []) × (heap.old.len ≡ 0) × (cells_of (area_of block.now) ≤ room heap.old) × Sound (before M.Order.leb) heap.old }
-    ensures heap { Sound (before M.Order.leb) heap.new }
-    ensures lined { Lined (kind_of M.Order M.Mark.lowest) (area_of block.now) levels.now origins.now (cells_of (area_of block.now)) (contents heap.new) }
+    requires heap { (contents heap.old ≡ []) × (heap.old.len ≡ 0) × (cells_of (area_of block.now) ≤ room heap.old) }
+    ensures { Lined (kind_of M.Order M.Mark.lowest) (area_of block.now) levels.now origins.now (cells_of (area_of block.now)) (contents heap.new) }
 {
     for node in 0..block.height() * block.width() {
         enter(block, levels, origins, node, heap);

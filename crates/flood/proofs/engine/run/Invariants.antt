@@ -1,16 +1,11 @@
-use Rattle.std.proofs.Common.{◌≡◌, ◌+◌, drop}
 use Rattle.flood.specs.Of.{graph_of}
-use Rattle.flood.specs.Queues.{waiting}
-use Rattle.flood.specs.State.{missing, Going, Roomy}
+use Rattle.flood.specs.Turns.{turns, Between, Stays}
 use Rattle.flood.proofs.engine.run.Given as goal
 
 abbrev pub invariant-loop-from : goal.invariant-loop-from
 invariant-loop-from g l =
-    let n = g.G.Ground.nodes l.ground in
-    Going (graph_of g.G.Mark.Order g.G.Ground l.ground) l.levels l.origins (waiting l.queue)
-    × Roomy g.G.Mark.Order.leb n l.levels l.origins l.queue
-    × (drop n l.levels ≡ drop n l.initial.levels)
-    × (drop n l.origins ≡ drop n l.initial.origins)
+    Stays (g.G.Ground.nodes l.ground) l.initial.levels l.initial.queue l.levels l.queue
+    × Between (graph_of g.G.Mark.Order g.G.Ground l.ground) l.levels l.queue
 
 abbrev pub decreases-loop-from : goal.decreases-loop-from
-decreases-loop-from g l = l.queue.heap.len + missing (g.G.Ground.nodes l.ground) l.levels
+decreases-loop-from g l = turns (g.G.Ground.nodes l.ground) l.levels l.queue

@@ -1,23 +1,14 @@
-use Rattle.std.proofs.Common.{refl, ◌∙◌, arith}
+use Rattle.std.proofs.Common.{arith}
 use Rattle.flood.proofs.Laws.{lawful_of}
 use Rattle.flood.proofs.Spread.{over}
 use Rattle.flood.proofs.engine.spread.Goals as goal
 
 pub overflow_add-place : goal.overflow_add-place
-overflow_add-place g c =
-    let short = (g.G.Ground.laws c.args.ground.now).short c.args.from.node in
-    let inside = c.loop-from-test.ensures.done.0 refl in
-    omega arith
+overflow_add-place g c = omega (arith, c.cross.ensures.done.0 c.loop-from-test.true, (g.G.Ground.laws c.args.ground.now).short c.args.from.node)
 
-pub returns : goal.returns
-returns g c =
+pub returns-clause-state : goal.returns-clause-state
+returns-clause-state g c =
     let m = g.met.G.Mark.Order in
     let laws = lawful_of g.G.Mark.Order g.G.Ground c.args.ground.now m.total m.transitive m.antisymmetric in
-    let last = c.loop-from-test.ensures in
-    let inv = c.loop-from.invariant in
-    record {
-      rest = (last.rest.0 ∙ inv.3, last.rest.1 ∙ inv.4);
-      count = last.count ∙ inv.0;
-      queue = last.queue;
-      state = over laws c.loop-from.place last.state (last.done.1 refl);
-    }
+    let last = c.cross.ensures in
+    (last.state.0, last.state.1, over laws c.loop-from.place (rw c.loop-from-test.false at last.state.2) (last.done.1 c.loop-from-test.false))

@@ -18,7 +18,7 @@ returns-in_default g c =
     let inside : r.node < length r.levels.now = omega (arith, c.requires.slices.2, c.requires.slices.0) in
     let is = sym (get_or_read r.levels.now r.node c.index-levels-node.result inside c.index-levels-node.is None) ∙ c.in_default.is in
     record {
-      heap = (omega (arith, c.requires.heap.0), c.requires.heap.1, c.requires.heap.2);
+      heap = (omega (arith, c.requires.heap.0), c.requires.heap.1);
       lined = lined_past κ O a r.levels.now r.origins.now r.node (contents r.heap.now) (λ C d N. absurd (level_some κ O a r.levels.now r.origins.now C r.node c.requires.slices.2 is)) c.requires.lined;
     }
 
@@ -29,7 +29,7 @@ returns-in_default-known g c =
     let r = c.args in
     let a = area_of r.block.now in
     record {
-      heap = (omega (arith, c.requires.heap.0), c.requires.heap.1, c.requires.heap.2);
+      heap = (omega (arith, c.requires.heap.0), c.requires.heap.1);
       lined = lined_past κ O a r.levels.now r.origins.now r.node (contents r.heap.now) (λ C d N. absurd (origin_some κ O a r.levels.now r.origins.now C r.node c.requires.slices.2 c.in_default-known.is)) c.requires.lined;
     }
 
@@ -45,6 +45,6 @@ returns g c =
     let is = sym (get_or_read r.levels.now r.node c.index-levels-node.result inside c.index-levels-node.is None) ∙ c.in-Some.is in
     let did = put_accepted h (record { level = c.in-Some.level; node = r.node; origin = c.in-Some-known.origin }) c.put.result h' (omega (arith, c.requires.heap.0, c.requires.heap.1, c.requires.slices.2)) c.put.ensures.told c.put.ensures.leaves in
     record {
-      heap = (omega (arith, did.1, c.requires.heap.0), omega (arith, did.2, c.requires.heap.1), c.put.ensures.order c.requires.heap.2);
+      heap = (omega (arith, did.1, c.requires.heap.0), omega (arith, did.2, c.requires.heap.1));
       lined = lined_more κ O a r.levels.now r.origins.now r.node (record { level = c.in-Some.level; node = r.node; origin = c.in-Some-known.origin }) (contents h) (contents h') refl (record { inside = c.requires.slices.2; level = is; origin = c.in-Some-known.is }) did.0 c.requires.lined;
     }

@@ -1,6 +1,5 @@
 use Rattle.std.proofs.Common.{◌≤◌}
-use Rattle.flood.specs.Entries.{before}
-use Rattle.flood.specs.Heaps.{Sound, contents, room}
+use Rattle.flood.specs.Heaps.{contents, room}
 use Rattle.terrain.specs.Terrains.{kind_of}
 use Rattle.tiles.specs.Plans.{area_of}
 use Rattle.surveying.specs.Turns.{cells_of, Lined}
@@ -10,5 +9,4 @@ abbrev pub invariant-loop-node : goal.invariant-loop-node
 invariant-loop-node g l =
     (l.heap.len ≤ l.node)
     × (cells_of (area_of l.block) ≤ room l.heap)
-    × Sound (before g.M.Order.leb) l.heap
     × Lined (kind_of g.M.Order g.M.Mark.lowest) (area_of l.block) l.levels l.origins l.node (contents l.heap)

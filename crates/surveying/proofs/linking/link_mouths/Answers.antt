@@ -19,11 +19,10 @@ loop-from-init g c =
     let O : OrderLaws κ.leb = record { total = g.met.M.Order.total; transitive = g.met.M.Order.transitive; antisymmetric = g.met.M.Order.antisymmetric } in
     let r = c.args in
     let a = area_of r.block.now in (
-      c.line_up.ensures.heap,
-      c.line_up.ensures.lined.stands,
+      c.line_up.ensures.stands,
       λ C.
           let many : tile_mouths C.plan C.tile ≡ border (height a) (width a) = ap (λ b. border (height b) (width b)) C.area in
-          so_begins κ O a r.levels.now r.origins.now C r.first (contents c.line_up.new.heap) c.unjoin.new.labels r.passes.now (subst (λ n. Unjoined n c.unjoin.new.labels) (c.requires.labels.0 ∙ sym many) c.unjoin.ensures) (c.requires.passes ∙ sym many) c.line_up.ensures.lined,
+          so_begins κ O a r.levels.now r.origins.now C r.first (contents c.line_up.new.heap) c.unjoin.new.labels r.passes.now (subst (λ n. Unjoined n c.unjoin.new.labels) (c.requires.labels.0 ∙ sym many) c.unjoin.ensures) (c.requires.passes ∙ sym many) c.line_up.ensures,
     )
 
 pub look_around-count-requires : goal.look_around-count-requires
@@ -39,8 +38,8 @@ look_around-count-requires g c =
     let q' = contents c.take.new.self in
     record {
       slices = (c.requires.slices.0, c.requires.slices.1, omega (arith, c.requires.labels.1, l.auto.labels));
-      from = (all_shuffled (Stands κ a r.levels.now r.origins.now) (contents l.heap) (x ∷ q') out.leaves.0 l.invariant.1).0;
-      turn = (C, q', turn_begins κ O a r.levels.now r.origins.now C r.first x (contents l.heap) q' l.labels l.passes l.count out.leaves.0 (l.invariant.2 C));
+      from = (all_shuffled (Stands κ a r.levels.now r.origins.now) (contents l.heap) (x ∷ q') out.leaves.0 l.invariant.0).0;
+      turn = (C, q', turn_begins κ O a r.levels.now r.origins.now C r.first x (contents l.heap) q' l.labels l.passes l.count out.leaves.0 (l.invariant.1 C));
     }
 
 pub loop-from-preserved : goal.loop-from-preserved
@@ -54,12 +53,11 @@ loop-from-preserved g c =
     let x = c.in-Some.from in
     let q = contents l.heap in
     let q' = contents c.take.new.self in
-    let least = (all_shuffled (λ y. before κ.leb x y ≡ true) q (x ∷ q') out.leaves.0 (out.least l.invariant.0)).1 in (
-      out.order l.invariant.0,
-      (all_shuffled (Stands κ a r.levels.now r.origins.now) q (x ∷ q') out.leaves.0 l.invariant.1).1,
+    let least = (all_shuffled (λ y. before κ.leb x y ≡ true) q (x ∷ q') out.leaves.0 out.least).1 in (
+      (all_shuffled (Stands κ a r.levels.now r.origins.now) q (x ∷ q') out.leaves.0 l.invariant.0).1,
       λ C. turn_ends κ O a r.levels.now r.origins.now C r.first x q' c.look_around-count.new.labels c.look_around-count.new.passes c.look_around-count.result
           (All-weaker (λ y. before κ.leb x y ≡ true) (λ y. κ.leb x.level y.level ≡ true) (λ y. before_level κ.leb x y) q' least)
-          (c.look_around-count.ensures C q' (turn_begins κ O a r.levels.now r.origins.now C r.first x q q' l.labels l.passes l.count out.leaves.0 (l.invariant.2 C))),
+          (c.look_around-count.ensures C q' (turn_begins κ O a r.levels.now r.origins.now C r.first x q q' l.labels l.passes l.count out.leaves.0 (l.invariant.1 C))),
     )
 
 pub returns : goal.returns
@@ -69,4 +67,4 @@ returns g c =
     let a = area_of r.block.now in
     let l = c.loop-from in
     let none = nil_from_length (contents l.heap) c.in_default.ensures.leaves.0 in
-    λ C. subst (λ q. Sofar κ a r.levels.now r.origins.now C r.first (Besides κ a r.levels.now r.origins.now q) q l.labels l.passes l.count) none (l.invariant.2 C)
+    λ C. subst (λ q. Sofar κ a r.levels.now r.origins.now C r.first (Besides κ a r.levels.now r.origins.now q) q l.labels l.passes l.count) none (l.invariant.1 C)

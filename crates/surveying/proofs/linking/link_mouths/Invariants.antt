@@ -1,7 +1,6 @@
 use Rattle.std.proofs.Common.{length}
 use Rattle.std.specs.List.{AllByRecursion}
-use Rattle.flood.specs.Entries.{before}
-use Rattle.flood.specs.Heaps.{Sound, contents}
+use Rattle.flood.specs.Heaps.{contents}
 use Rattle.terrain.specs.Terrains.{kind_of}
 use Rattle.tiles.specs.Plans.{area_of}
 use Rattle.surveying.specs.Turns.{Flooded, Besides, Stands, Sofar}
@@ -11,8 +10,7 @@ abbrev pub invariant-loop-from : goal.invariant-loop-from
 invariant-loop-from g l =
     let κ = kind_of g.M.Order g.M.Mark.lowest in
     let a = area_of l.block in
-    Sound (before g.M.Order.leb) l.heap
-    × AllByRecursion (Stands κ a l.levels l.origins) (contents l.heap)
+    AllByRecursion (Stands κ a l.levels l.origins) (contents l.heap)
     × ((C : Flooded κ a l.levels l.origins) → Sofar κ a l.levels l.origins C l.first (Besides κ a l.levels l.origins (contents l.heap)) (contents l.heap) l.labels l.passes l.count)
 
 abbrev pub decreases-loop-from : goal.decreases-loop-from

@@ -1,65 +1,48 @@
-use Rattle.std.proofs.Common.{◌≡◌, ◌<◌, min, true, false, not, [], ◌∷◌, length, get_or, take, Some, sym, refl, ap, ◌∙◌, inl, arith}
-use Rattle.std.proofs.lemmas.List.{length-set, get_or_default}
-use Rattle.marks.specs.Refusals.{checked}
-use Rattle.flood.specs.Heaps.{above}
-use Rattle.flood.proofs.Sifts.{take_min, nth_front, nth_behind, lower_ordered, lower_shuffled, set_moves, traced}
+use Rattle.std.proofs.Common.{◌<◌, length, sym, refl, ap, ◌∙◌, inl, arith, rules}
+use Rattle.std.proofs.lemmas.List.{length-set}
+use Rattle.flood.proofs.Sifts.{front, lower_ordered, lower_shuffled, set_moves, traced}
 use Rattle.flood.proofs.heap.Heap.lower.Goals as goal
 
-pub returns-then-len-place : goal.returns-then-len-place
-returns-then-len-place g c =
-    let h = c.args.self.now in
-    let none = nth_behind h.len c.args.place h.slots.now (omega arith) in
-    record {
-      told = sym (ap (λ o. checked ((above g.E.Order.leb c.args.x o, 26) ∷ []) tt) none);
-      leaves = refl;
-      order = λ s. s;
-      loans = refl;
-    }
+pub bounds-slots-place : goal.bounds-slots-place
+bounds-slots-place g c = let h = c.args.self.now in omega (arith, h.within, (front h.len c.args.place h.slots.now c.in_ok-old.old h.within (sym c.look.ensures ∙ c.in_ok-old.ensures.ok_part)).0)
 
-pub returns-then-not-at_most : goal.returns-then-not-at_most
-returns-then-not-at_most g c =
+pub offset_bounds-slots-place : goal.offset_bounds-slots-place
+offset_bounds-slots-place g c =
+    let h = c.args.self.now in
+    let low : c.args.place < length h.slots.now = omega (arith, h.within, (front h.len c.args.place h.slots.now c.in_ok-old.old h.within (sym c.look.ensures ∙ c.in_ok-old.ensures.ok_part)).0) in search rules
+
+pub rise-head-requires : goal.rise-head-requires
+rise-head-requires g c =
+    let h = c.args.self.now in
+    omega (arith, h.within, length-set h.slots.now c.args.place c.args.x, (front h.len c.args.place h.slots.now c.in_ok-old.old h.within (sym c.look.ensures ∙ c.in_ok-old.ensures.ok_part)).0)
+
+pub invariant_of-self : goal.invariant_of-self
+invariant_of-self g c =
     let le = g.E.Order.leb in
     let h = c.args.self.now in
+    let xs = h.slots.now in
+    let i = c.args.place in
     let x = c.args.x in
-    let read = c.index-self-place.result in
-    let old = get_or h.slots.now c.args.place read in
-    let some = nth_front h.len c.args.place h.slots.now read (omega arith) c.index-self-place.is ∙ ap Some c.index-self-place.is in
-    let strict : le x old ≡ false = sym c.if-not-at_most.ensures in
+    let did = c.rise-head.ensures in
+    let stood = front h.len i xs c.in_ok-old.old h.within (sym c.look.ensures ∙ c.in_ok-old.ensures.ok_part) in
     record {
-      told = sym (ap (λ o. checked ((above le x o, 26) ∷ []) tt) some ∙ ap (λ b. checked ((not b, 26) ∷ []) tt) strict);
-      leaves = refl;
-      order = λ s. s;
-      loans = refl;
+      within = omega (arith, did.len, length-set xs i x, h.within);
+      ordered = lower_ordered le g.met.E.Order.transitive xs c.rise-head.new.slots i h.len x stood.0 h.within (λ d. ap (le x) (stood.1 d) ∙ sym c.if-not-at_most.ensures) h.ordered did.rises;
     }
 
-pub returns : goal.returns
-returns g c =
-    let le = g.E.Order.leb in
-    let tr = g.met.E.Order.transitive in
+pub returns-clause-leaves : goal.returns-clause-leaves
+returns-clause-leaves g c =
     let h = c.args.self.now in
     let xs = h.slots.now in
     let ys = c.rise-head.new.slots in
+    let head = c.rise-head.result in
     let i = c.args.place in
     let x = c.args.x in
-    let read = c.index-self-place.result in
-    let old = get_or xs i read in
     let did = c.rise-head.ensures in
-    let long = length-set xs i x in
-    let n = min h.len (length xs) in
-    let inside : i < n = omega arith in
-    let some = nth_front h.len i xs read inside c.index-self-place.is ∙ ap Some c.index-self-place.is in
-    let lower : le x old ≡ true = sym c.if-not-at_most.ensures in
-    let t : (d : g.row.E.Denot) → le x (get_or xs i d) ≡ true = λ d. ap (le x) (get_or_default xs i d read (omega arith)) ∙ lower in
-    let before : take h.len xs ≡ take n xs = take_min h.len xs in
-    let after : take h.len ys ≡ take n ys = take_min h.len ys ∙ ap (λ m. take (min h.len m) ys) (did.len ∙ long) in
-    record {
-      told = sym (ap (λ o. checked ((above le x o, 26) ∷ []) tt) some ∙ ap (λ b. checked ((not b, 26) ∷ []) tt) lower);
-      leaves = (
-        rw (before, after) (lower_shuffled le tr xs ys i n x inside (omega arith) did.rises),
-        refl,
-        did.len ∙ long,
-        traced xs ys h.len h.len i c.rise-head.result x (did.len ∙ long) (λ k lt. inl lt) (set_moves xs ys i c.rise-head.result h.len x did.moves.1 (did.moves.0 h.len)),
-      );
-      order = λ s. record { within = omega (arith, s.within, did.len); ordered = lower_ordered le tr xs ys i h.len x (omega arith) s.within t s.ordered did.rises };
-      loans = refl;
-    }
+    let long = did.len ∙ length-set xs i x in
+    let stood = front h.len i xs c.in_ok-old.old h.within (sym c.look.ensures ∙ c.in_ok-old.ensures.ok_part) in (
+      lower_shuffled g.E.Order.leb g.met.E.Order.transitive xs ys i h.len x stood.0 h.within did.rises,
+      refl,
+      long,
+      traced xs ys h.len h.len i head x long (λ k lt. inl lt) (set_moves xs ys i head h.len x did.moves.1 (did.moves.0 h.len)),
+    )

@@ -1,34 +1,31 @@
-use Rattle.std.proofs.Common.{◌≡◌, ◌+◌, ◌<◌, ◌∷◌, length, take, sym, refl, ap, ◌∙◌, subst, inl, inr, ⊎_elim, arith}
-use Rattle.std.specs.List.Sorted.{IsPermutation}
+use Rattle.std.proofs.Common.{◌≡◌, ◌+◌, refl, ◌∙◌, inl, inr, ⊎_elim, arith}
 use Rattle.std.proofs.lemmas.List.{length-set}
-use Rattle.std.proofs.lemmas.Bool.{cond-false, lt-leb, cases_eq}
-use Rattle.flood.specs.Heaps.{contents, room, full}
-use Rattle.flood.specs.Orders.{Ordered}
+use Rattle.std.proofs.lemmas.Bool.{cases_eq}
 use Rattle.flood.proofs.Sifts.{put_ordered, put_shuffled, set_moves, traced}
 use Rattle.flood.proofs.heap.Heap.put.Goals as goal
 
-pub returns : goal.returns
-returns g c =
-    let le = g.E.Order.leb in
-    let tr = g.met.E.Order.transitive in
+pub invariant_of-self : goal.invariant_of-self
+invariant_of-self g c =
+    let h = c.args.self.now in
+    let did = c.rise-head.ensures in
+    record {
+      within = omega (arith, did.len, length-set h.slots.now h.len c.args.x);
+      ordered = put_ordered g.E.Order.leb g.met.E.Order.transitive h.slots.now c.rise-head.new.slots h.len c.args.x (omega arith) h.ordered did.rises;
+    }
+
+pub returns-clause-leaves : goal.returns-clause-leaves
+returns-clause-leaves g c =
     let h = c.args.self.now in
     let xs = h.slots.now in
     let ys = c.rise-head.new.slots in
+    let head = c.rise-head.result in
+    let n = h.len in
     let x = c.args.x in
-    let last = c.len-last.result in
     let did = c.rise-head.ensures in
-    let long = length-set xs last x in
-    let free : last < length xs = omega arith in
-    let same : last ≡ h.len = omega (arith, c.len-last.ensures.within) in
-    record {
-      told = sym (cond-false (full h) _ _ (lt-leb (room h) (length (contents h)) (omega (arith, c.len-last.ensures.value))));
-      leaves = (
-        subst (λ n. IsPermutation (x ∷ take n xs) (take (last + 1) ys)) same (put_shuffled le tr xs ys last x free did.rises),
-        ap (λ n. n + 1) same,
-        did.len ∙ long,
-        traced xs ys h.len (last + 1) last c.rise-head.result x (did.len ∙ long) (λ k lt. ⊎_elim (λ (e : k ≡ last). inr (e, omega (arith, did.moves.1))) (λ (ne : k ≡ last → ⊥). inl (omega arith)) (cases_eq k last))
-            (set_moves xs ys last c.rise-head.result (last + 1) x did.moves.1 (did.moves.0 (last + 1))),
-      );
-      order = λ s. record { within = omega (arith, did.len); ordered = put_ordered le tr xs ys last x free (subst (λ n. Ordered le xs n) (sym same) s.ordered) did.rises };
-      loans = refl;
-    }
+    let long = did.len ∙ length-set xs n x in (
+      put_shuffled g.E.Order.leb g.met.E.Order.transitive xs ys n x (omega arith) did.rises,
+      refl,
+      long,
+      traced xs ys n (n + 1) n head x long (λ k lt. ⊎_elim (λ (e : k ≡ n). inr (e, omega (arith, did.moves.1))) (λ (ne : k ≡ n → ⊥). inl (omega arith)) (cases_eq k n))
+          (set_moves xs ys n head (n + 1) x did.moves.1 (did.moves.0 (n + 1))),
+    )

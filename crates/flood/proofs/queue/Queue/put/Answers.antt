@@ -5,25 +5,25 @@ use Rattle.flood.proofs.queue.Queue.put.Goals as goal
 
 pub follow-requires : goal.follow-requires
 follow-requires g c =
-    let h = c.args.self.now.heap in
+    let s = c.args.self.now in
     let h' = c.put.new.self in
-    let did = put_accepted h c.args.x c.put.result h' c.requires.room c.put.ensures.told c.put.ensures.leaves in
+    let did = put_accepted s.heap.now c.args.x c.put.result h' c.requires.room c.put.ensures.told c.put.ensures.leaves in
     record {
-      single = single_joined c.args.x (contents h') c.requires.ready.single c.requires.fresh.0 c.requires.fresh.1 did.0;
-      half = λ on. half_placed c.args.origins.now h h' (c.requires.ready.placed on) did.3;
+      single = single_joined c.args.x (contents h') s.single c.requires.fresh.0 c.requires.fresh.1 did.0;
+      half = λ on. half_placed s.origins.now s.heap.now h' (s.right on) did.3;
     }
 
-pub returns : goal.returns
-returns g c =
-    let h = c.args.self.now.heap in
+pub invariant_of-self : goal.invariant_of-self
+invariant_of-self g c =
+    let s = c.args.self.now in
     let h' = c.put.new.self in
-    let did = put_accepted h c.args.x c.put.result h' c.requires.room c.put.ensures.told c.put.ensures.leaves in
+    let did = put_accepted s.heap.now c.args.x c.put.result h' c.requires.room c.put.ensures.told c.put.ensures.leaves in
     record {
-      ready = record {
-        order = c.put.ensures.order c.requires.ready.order;
-        single = single_long c.follow.ensures.kept.long (single_joined c.args.x (contents h') c.requires.ready.single c.requires.fresh.0 c.requires.fresh.1 did.0);
-        placed = c.follow.ensures.placed;
-      };
-      leaves = record { entries = did.0; more = did.1; room = did.2 };
-      kept = c.follow.ensures.kept;
+      single = single_long c.follow.ensures.kept.long (single_joined c.args.x (contents h') s.single c.requires.fresh.0 c.requires.fresh.1 did.0);
+      right = c.follow.ensures.placed;
     }
+
+pub returns-clause-leaves : goal.returns-clause-leaves
+returns-clause-leaves g c =
+    let did = put_accepted c.args.self.now.heap.now c.args.x c.put.result c.put.new.self c.requires.room c.put.ensures.told c.put.ensures.leaves in
+    record { entries = did.0; more = did.1; room = did.2; kept = c.follow.ensures.kept }

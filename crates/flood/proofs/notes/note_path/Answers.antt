@@ -1,8 +1,8 @@
 use Rattle.std.proofs.Common.{◌-◌, ◌/◌, sym, subst, arith}
 use Rattle.flood.specs.Heaps.{contents}
-use Rattle.flood.specs.Queues.{HalfPlaced}
+use Rattle.flood.specs.Places.{HalfPlaced}
 use Rattle.flood.proofs.Places.{kept_none, kept_both, single_long, path_noted, path_next, path_over}
-use Rattle.flood.proofs.queue.note_path.Goals as goal
+use Rattle.flood.proofs.notes.note_path.Goals as goal
 
 pub note-requires-in-loop-place : goal.note-requires-in-loop-place
 note-requires-in-loop-place g c = single_long c.loop-place.invariant.0.long (single_long c.note.ensures.kept.long c.requires.single)

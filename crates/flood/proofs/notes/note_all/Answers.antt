@@ -1,7 +1,7 @@
 use Rattle.std.proofs.Common.{arith}
 use Rattle.flood.specs.Heaps.{contents}
 use Rattle.flood.proofs.Places.{kept_none, kept_both, single_long, below_next, below_all}
-use Rattle.flood.proofs.queue.note_all.Goals as goal
+use Rattle.flood.proofs.notes.note_all.Goals as goal
 
 pub loop-place-init : goal.loop-place-init
 loop-place-init g c = (kept_none c.args.origins.now (contents c.args.heap.now), λ k x lt is. absurd (omega arith))
