@@ -6,6 +6,7 @@ ghost use Rattle.tiles.specs.Plans.{plan, plan_of, Lawful};
 
 use crate::division::Division;
 use marks::Refusal;
+use sheets::Sides;
 
 // How a sheet is cut: its sides, each with the places at which bands begin. Every cut list keeps the rules for cuts.
 #[derive(Clone, Copy)]
@@ -24,9 +25,7 @@ impl CutList {
     ) -> Result<CutList, Refusal>
         ensures told { answered plan_of (told result) ≡ checked (cut_checks rows down.now cols across.now) (plan rows down.now cols across.now) }
     {
-        if rows < 1 || rows > 2048 || cols < 1 || cols > 2048 {
-            return Err(Refusal::Size);
-        }
+        Sides::new(rows, cols)?;
         let rows = Division::new(rows, down).ok_or(Refusal::CutRule)?;
         let cols = Division::new(cols, across).ok_or(Refusal::CutRule)?;
         Ok(CutList { rows, cols })
@@ -58,11 +57,15 @@ impl CutList {
     }
 
     // How many rows and columns the sheet has.
-    pub fn sides(&self) -> (usize, usize)
+    pub fn sides(&self) -> Sides
         ensures rules { Lawful (plan_of self.now) }
-        ensures value { result ≡ ((plan_of self.now).rows, (plan_of self.now).cols) }
+        ensures rows { result.rows ≡ (plan_of self.now).rows }
+        ensures cols { result.cols ≡ (plan_of self.now).cols }
     {
-        (self.rows.side, self.cols.side)
+        Sides {
+            rows: self.rows.side,
+            cols: self.cols.side,
+        }
     }
 
     // The rows at which bands begin, but for the first.

@@ -4,6 +4,7 @@ ghost use Rattle.tiles.specs.Plans.{area_of, height, width};
 ghost use Rattle.tiles.specs.Mouths.{on_border, border, border_before, mouth_index};
 
 use crate::block::Block;
+use sheets::Sides;
 
 impl Block {
     // How many rows it has.
@@ -20,11 +21,22 @@ impl Block {
         self.right - self.left
     }
 
+    // Its sides, as those of a sheet.
+    fn sides(&self) -> Sides
+        ensures rows { result.rows ≡ height (area_of self.now) }
+        ensures cols { result.cols ≡ width (area_of self.now) }
+    {
+        Sides {
+            rows: self.height(),
+            cols: self.width(),
+        }
+    }
+
     // How many mouths it has.
     pub fn mouths(&self) -> usize
         ensures { result ≡ border (height (area_of self.now)) (width (area_of self.now)) }
     {
-        border_cells(self.height(), self.width())
+        border_cells(self.sides())
     }
 
     // The number of a cell among its mouths, in reading order; none for a cell that is no mouth of it.
@@ -34,7 +46,7 @@ impl Block {
         if row < self.top || row >= self.bottom || col < self.left || col >= self.right {
             return None;
         }
-        border_index(self.height(), self.width(), row - self.top, col - self.left)
+        border_index(self.sides(), row - self.top, col - self.left)
     }
 
     // The row and column of the mouth that has this number among its mouths; none if it has no such mouth.
@@ -44,16 +56,16 @@ impl Block {
         if index >= self.mouths() {
             return None;
         }
-        let (y, x) = border_place(self.height(), self.width(), index);
+        let (y, x) = border_place(self.sides(), index);
         Some((self.top + y, self.left + x))
     }
 }
 
-// How many cells of a rectangle of h rows and w columns lie on its border.
-fn border_cells(h: usize, w: usize) -> usize
-    requires { (1 ≤ h) × ((1 ≤ w) × ((h ≤ 2048) × (w ≤ 2048))) }
-    ensures { result ≡ border h w }
+// How many cells lie on the border of a rectangle.
+fn border_cells(sides: Sides) -> usize
+    ensures { result ≡ border sides.rows sides.cols }
 {
+    let Sides { rows: h, cols: w } = sides;
     if h == 1 {
         return w;
     }
@@ -64,10 +76,11 @@ fn border_cells(h: usize, w: usize) -> usize
 }
 
 // How many border cells come before a border cell in reading order; none for another cell.
-fn border_index(h: usize, w: usize, y: usize, x: usize) -> Option<usize>
-    requires { (y < h) × ((x < w) × ((h ≤ 2048) × (w ≤ 2048))) }
-    ensures { result ≡ (if on_border h w y x then Some (border_before h w y x) else None) }
+fn border_index(sides: Sides, y: usize, x: usize) -> Option<usize>
+    requires { (y < sides.rows) × (x < sides.cols) }
+    ensures { result ≡ (if on_border sides.rows sides.cols y x then Some (border_before sides.rows sides.cols y x) else None) }
 {
+    let Sides { rows: h, cols: w } = sides;
     if y == 0 {
         return Some(x);
     }
@@ -89,11 +102,12 @@ fn border_index(h: usize, w: usize, y: usize, x: usize) -> Option<usize>
 }
 
 // The border cell before which so many others come in reading order.
-fn border_place(h: usize, w: usize, index: usize) -> (usize, usize)
-    requires { (1 ≤ h) × ((1 ≤ w) × ((h ≤ 2048) × ((w ≤ 2048) × (index < border h w)))) }
-    ensures inside { (result.0 < h) × (result.1 < w) }
-    ensures value { (if on_border h w result.0 result.1 then Some (border_before h w result.0 result.1) else None) ≡ Some index }
+fn border_place(sides: Sides, index: usize) -> (usize, usize)
+    requires { index < border sides.rows sides.cols }
+    ensures inside { (result.0 < sides.rows) × (result.1 < sides.cols) }
+    ensures value { (if on_border sides.rows sides.cols result.0 result.1 then Some (border_before sides.rows sides.cols result.0 result.1) else None) ≡ Some index }
 {
+    let Sides { rows: h, cols: w } = sides;
     if index < w {
         return (0, index);
     }

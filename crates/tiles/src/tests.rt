@@ -1,6 +1,7 @@
 // Examples, each with the nearest that is refused. The expected numbers are counted by hand on drawn sheets.
 use crate::{CutList, Mouth, Spot};
 use marks::Refusal;
+use sheets::Sides;
 use std::process::Abort;
 use std::test::Fail;
 
@@ -57,10 +58,10 @@ fn cuts_keep_the_rules(rt: HostRuntime) {
 #[test]
 fn a_refused_list_stays(rt: HostRuntime) -> Result<(), Fail> {
     let mut list = CutList::fresh();
-    assert_eq!(rt; list.sides(), (1, 1));
+    assert_eq!(rt; list.sides(), Sides::new(1, 1)?);
     list.recut(4, &[2], 6, &[2, 5])?;
     assert_eq!(rt; list.recut(4, &[4], 6, &[]), Err(Refusal::CutRule));
-    assert_eq!(rt; list.sides(), (4, 6));
+    assert_eq!(rt; list.sides(), Sides::new(4, 6)?);
     assert_eq!(rt; list.tiles(), 6);
     Ok(())
 }

@@ -5,29 +5,29 @@ use Rattle.tiles.proofs.perimeter.border_place.Goals as goal
 
 pub returns-then-index-w : goal.returns-then-index-w
 returns-then-index-w c =
-    let h = c.args.h in
-    let w = c.args.w in
+    let h = c.args.sides.rows in
+    let w = c.args.sides.cols in
     let k = c.args.index in
     record { inside = (omega arith, omega arith); value = index_is h w 0 k k (border_top h w 0 k refl) (first_row h w 0 k refl) }
 
 pub returns-then-w-eq1 : goal.returns-then-w-eq1
 returns-then-w-eq1 c =
-    let h = c.args.h in
-    let w = c.args.w in
+    let h = c.args.sides.rows in
+    let w = c.args.sides.cols in
     let k = c.args.index in
     let all : border h w ≡ h = ap (border h) c.if-w-eq1.true ∙ border_column h in
     record { inside = (omega arith, omega arith); value = index_is h w k 0 k (border_left h w k 0 refl) (in_column h w k 0 c.if-w-eq1.true (omega arith)) }
 
 pub overflow_sub-h : goal.overflow_sub-h
-overflow_sub-h c = two_rows c.args.h c.args.w c.args.index (omega arith) (omega arith) (omega arith)
+overflow_sub-h c = two_rows c.args.sides.rows c.args.sides.cols c.args.index (omega arith) (omega arith) (omega arith)
 
 pub overflow_sub-result-then-past-h : goal.overflow_sub-result-then-past-h
-overflow_sub-result-then-past-h c = two_rows c.args.h c.args.w c.args.index (omega arith) (omega arith) (omega arith)
+overflow_sub-result-then-past-h c = two_rows c.args.sides.rows c.args.sides.cols c.args.index (omega arith) (omega arith) (omega arith)
 
 pub returns-then-past-h : goal.returns-then-past-h
 returns-then-past-h c =
-    let h = c.args.h in
-    let w = c.args.w in
+    let h = c.args.sides.rows in
+    let w = c.args.sides.cols in
     let k = c.args.index in
     let tall : 2 ≤ h = two_rows h w k (omega arith) (omega arith) (omega arith) in
     let all : border h w ≡ 2 * (h + w) - 4 = border_ring h w tall (omega arith) in
@@ -36,8 +36,8 @@ returns-then-past-h c =
 
 pub returns-then-past-eq0 : goal.returns-then-past-eq0
 returns-then-past-eq0 c =
-    let h = c.args.h in
-    let w = c.args.w in
+    let h = c.args.sides.rows in
+    let w = c.args.sides.cols in
     let k = c.args.index in
     let tall : 2 ≤ h = two_rows h w k (omega arith) (omega arith) (omega arith) in
     let y : ℕ = 1 + (k - w) / 2 in
@@ -46,8 +46,8 @@ returns-then-past-eq0 c =
 
 pub returns-else-past-eq0 : goal.returns-else-past-eq0
 returns-else-past-eq0 c =
-    let h = c.args.h in
-    let w = c.args.w in
+    let h = c.args.sides.rows in
+    let w = c.args.sides.cols in
     let k = c.args.index in
     let tall : 2 ≤ h = two_rows h w k (omega arith) (omega arith) (omega arith) in
     let y : ℕ = 1 + (k - w) / 2 in
