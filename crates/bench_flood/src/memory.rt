@@ -40,7 +40,9 @@ impl Memory {
     pub(crate) fn levels(&self, heap: Global) -> Result<Vec<u8>, AllocError> {
         let mut bytes = Vec::new(heap);
         for level in self.levels.iter() {
-            let dm = level.and_then(|height| height.decimetres()).unwrap_or(i16::MIN);
+            let dm = level
+                .and_then(|height| height.decimetres())
+                .unwrap_or(i16::MIN);
             bytes.extend_from_slice(&dm.to_le_bytes())?;
         }
         Ok(bytes)
