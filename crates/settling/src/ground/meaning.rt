@@ -48,24 +48,20 @@ impl<'a, 'b, M: Mark> Ground for MouthGround<'a, 'b, M> {
 
     fn drain(&self, node: usize) -> Option<M> {
         let mouth = self.cuts.mouth(node)?;
-        let (rows, cols) = self.cuts.sides();
-        if (Sides { rows, cols }).on_edge(mouth.row, mouth.col) {
-            let mouths = self.mouths;
-            Some(mouths[node].mark)
-        } else {
-            None
-        }
+        let mouths = self.mouths;
+        let edge = self.cuts.sides().on_edge(mouth.row, mouth.col);
+        edge.then_some(mouths[node].mark)
     }
 }
 
 // Of the nine cells around a cell, row by row, itself among them, one by its place; none past the edge.
-fn around(rows: usize, cols: usize, row: usize, col: usize, k: usize) -> Option<Place>
+fn around(sides: Sides, row: usize, col: usize, k: usize) -> Option<Place>
     requires { (row ≤ 2048) × ((col ≤ 2048) × (k < 9)) }
-    ensures { result ≡ around rows cols (cell_at row col) k }
+    ensures { result ≡ around sides.rows sides.cols (cell_at row col) k }
 {
     let y = row + k / 3;
     let x = col + k % 3;
-    if 1 <= y && y <= rows && 1 <= x && x <= cols {
+    if 1 <= y && y <= sides.rows && 1 <= x && x <= sides.cols {
         Some(Place {
             row: y - 1,
             col: x - 1,
@@ -88,8 +84,8 @@ fn seam_link<M: Mark>(
     requires k { k < 9 }
     ensures { result ≡ seam_at (kind_of M.Order M.Mark.lowest) (plan_of cuts.now) mouths.now node k }
 {
-    let (rows, cols) = cuts.sides();
-    let cell = around(rows, cols, mouth.row, mouth.col, k)?;
+    let sides = cuts.sides();
+    let cell = around(sides, mouth.row, mouth.col, k)?;
     let spot = cuts.spot(cell.row, cell.col)?;
     if spot.tile == mouth.tile {
         return None;
