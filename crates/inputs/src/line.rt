@@ -35,9 +35,9 @@ fn cut(bytes: &[u8], at: usize, left: usize) -> Result<Step, usize>
     if len < word.len() {
         return Err(stop);
     }
-    if n == 0 {
+    let Some(n) = n else {
         return Err(stop);
-    }
+    };
     if stop >= bytes.len() {
         return Err(stop);
     }

@@ -25,19 +25,13 @@ pub(crate) struct Input<M> {
 
 // Reads a word at `at`, and answers where it ends.
 fn word(bytes: &[u8], at: usize, word: &[u8]) -> Result<usize, Refusal> {
-    match literal(bytes, at, word) {
-        Ok(end) => Ok(end),
-        Err(place) => Err(Refusal::Text(place)),
-    }
+    literal(bytes, at, word).map_err(Refusal::Text)
 }
 
 // Reads a number from 1 to `most` at `at`, and answers it and where it ends.
 fn number(bytes: &[u8], at: usize, most: u32) -> Result<(usize, usize), Refusal> {
     let (end, n) = natural(bytes, at, most);
-    if n == 0 {
-        return Err(Refusal::Text(end));
-    }
-    Ok((n, end))
+    n.map(|n| (n, end)).ok_or(Refusal::Text(end))
 }
 
 // Reads the spelling of a mark at `at`, and answers it and where it ends.

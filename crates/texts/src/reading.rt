@@ -46,9 +46,9 @@ fn side(bytes: &[u8], at: usize, end: u8) -> Result<(usize, usize), usize>
     if len < word.len() {
         return Err(stop);
     }
-    if n == 0 {
+    let Some(n) = n else {
         return Err(stop);
-    }
+    };
     if stop >= bytes.len() {
         return Err(stop);
     }
