@@ -37,13 +37,13 @@ front_cons b bs e = ap (λ t. cond t [] (b ∷ front bs)) e
 pub front_none : (b : ℕ) (bs : List ℕ) → separates b ≡ true → front (b ∷ bs) ≡ []
 front_none b bs e = ap (λ t. cond t [] (b ∷ front bs)) e
 
--- the place of the first separator, or the end
-found_place : (bs : List ℕ) → unwrap_or (position separates bs) (length bs) ≡ position_or_len separates bs
-found_place bs = by (ltb (position_or_len separates bs) (length bs)) refl
+-- the place of the first byte that passes, or the end
+pub found_place : (p : ℕ → Bool) (bs : List ℕ) → unwrap_or (position p bs) (length bs) ≡ position_or_len p bs
+found_place p bs = by (ltb (position_or_len p bs) (length bs)) refl
   where
-    by : (t : Bool) → ltb (position_or_len separates bs) (length bs) ≡ t → unwrap_or (cond t (Some (position_or_len separates bs)) None) (length bs) ≡ position_or_len separates bs
+    by : (t : Bool) → ltb (position_or_len p bs) (length bs) ≡ t → unwrap_or (cond t (Some (position_or_len p bs)) None) (length bs) ≡ position_or_len p bs
     by true e = refl
-    by false e = omega (arith, ltb-false _ _ e, prefix_len-le-length (λ b. not (separates b)) bs)
+    by false e = omega (arith, ltb-false _ _ e, prefix_len-le-length (λ b. not (p b)) bs)
 
 front_take : (bs : List ℕ) → take (position_or_len separates bs) bs ≡ front bs
 front_take [] = refl
@@ -54,7 +54,7 @@ front_take (b ∷ bs) = by (separates b) (front_take bs)
     by false e = ap (λ n. take n (b ∷ bs)) (one-add (position_or_len separates bs)) ∙ ap (λ w. b ∷ w) e
 
 pub front_is : (bs : List ℕ) → take (unwrap_or (position separates bs) (length bs)) bs ≡ front bs
-front_is bs = ap (λ n. take n bs) (found_place bs) ∙ front_take bs
+front_is bs = ap (λ n. take n bs) (found_place separates bs) ∙ front_take bs
 
 pub front_long : (bs : List ℕ) → length (front bs) ≤ length bs
 front_long bs = omega (arith, ap length (sym (front_take bs)), length-prefix_len (λ b. not (separates b)) bs, prefix_len-le-length (λ b. not (separates b)) bs)
