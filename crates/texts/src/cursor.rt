@@ -32,7 +32,8 @@ impl<'a> Cursor<'a> {
     pub fn place(self) -> usize
         ensures { result ≡ self.entry.at }
     {
-        self.at
+        let Cursor { at, .. } = self;
+        at
     }
 
     // The word or number here, and nothing where there is neither.
