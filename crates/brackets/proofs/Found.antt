@@ -1,5 +1,5 @@
 -- The mark that has a spelling. Assumes nothing.
-use Rattle.std.proofs.Common.{◌≡◌, ℕ, zero, suc, ◌^◌, ◌<◌, Bool, true, false, cond, ◌&&◌, List, [], ◌∷◌, drop, Some, None, Option, sym, refl, ap, ◌∙◌, ⊎_elim, arith, MatchOption}
+use Rattle.std.proofs.Common.{◌≡◌, ℕ, zero, suc, ◌^◌, ◌<◌, Bool, true, false, cond, ◌&&◌, List, [], ◌∷◌, Some, None, Option, sym, refl, ap, ◌∙◌, ⊎_elim, arith, MatchOption}
 use Rattle.std.proofs.lemmas.Bool.{cases_eq}
 use Rattle.std.proofs.lemmas.Bool.Decides.{eqb_tells}
 use Rattle.sheets.specs.Grids.{cell_of}
@@ -77,5 +77,5 @@ module _ {M : Type 0} (coded : M → ℕ) (decoded : ℕ → Option M) (f : M �
       by (Some y) e = absurd (h y (spelt y e))
 
 -- the cell at a place of a line
-pub along_at : {M : Type 0} (decoded : ℕ → Option M) (f : M → List ℕ) (bs : List ℕ) (from k place : ℕ) → drop place bs ≡ parts_on k (drop from bs) → cell_along decoded f (drop from bs) k ≡ cell_of (mark_of decoded f (front (drop place bs)))
-along_at decoded f bs from k place e = ap (λ w. cell_of (mark_of decoded f (front w))) (sym e)
+pub along_at : {M : Type 0} (decoded : ℕ → Option M) (f : M → List ℕ) (line : List ℕ) (k : ℕ) (rest : List ℕ) → rest ≡ parts_on k line → cell_along decoded f line k ≡ cell_of (mark_of decoded f (front rest))
+along_at decoded f line k rest e = ap (λ w. cell_of (mark_of decoded f (front w))) (sym e)

@@ -1,29 +1,23 @@
 -- Going through a text line by line and part by part. Assumes nothing.
-use Rattle.std.proofs.Common.{◌≡◌, ℕ, zero, suc, ◌+◌, ◌-◌, ◌<◌, ◌≤◌, cond, List, [], ◌∷◌, ◌++◌, length, get_or, drop, sym, refl, ap, ◌∙◌, ⊎_elim, add-one, arith, length-drop}
-use Rattle.std.proofs.lemmas.List.{drop_more, drop_all, drop-drop}
+use Rattle.std.proofs.Common.{◌≡◌, ℕ, zero, suc, ◌+◌, ◌-◌, ◌<◌, ◌≤◌, ◌==◌, Bool, true, false, cond, List, [], ◌∷◌, ◌++◌, length, get_or, drop, sym, refl, ap, ◌∙◌, ⊎_elim, add-one, arith, length-drop}
+use mathlib.Core.Bool.{not}
+use Rattle.std.specs.List.{position_or_len}
+use Rattle.std.proofs.lemmas.List.{drop-drop}
 use Rattle.std.proofs.lemmas.List.FromFn.{length-map-range_with_len, get_or-map-range_with_len, map-range_with_len_more}
 use Rattle.std.proofs.lemmas.Bool.Decides.{eqb_tells}
-use Rattle.texts.specs.Tokens.{front}
 use Rattle.brackets.specs.Lines.{past_line, lines_on, past_part, parts_on, row_starts}
 
-module _ (bs : List ℕ) (at : ℕ) where
-  -- a line end, another byte, and the end of the text
-  pub line_stop : at < length bs → get_or bs at 0 ≡ 10 → drop (at + 1) bs ≡ past_line (drop at bs)
-  line_stop h e = sym (ap past_line (drop_more bs at 0 h ∙ ap (λ b. b ∷ drop (at + 1) bs) e))
-
-  pub line_more : at < length bs → (get_or bs at 0 ≡ 10 → ⊥) → past_line (drop at bs) ≡ past_line (drop (at + 1) bs)
-  line_more h other =
-      ap past_line (drop_more bs at 0 h) ∙ ⊎_elim (λ p. absurd (other p.1)) (λ p. ap (λ t. cond t (drop (at + 1) bs) (past_line (drop (at + 1) bs))) p.0) (eqb_tells (get_or bs at 0) 10)
-
-  pub line_end : length bs ≤ at → drop at bs ≡ past_line (drop at bs)
-  line_end h = let none = drop_all at bs h in none ∙ ap past_line (sym none)
-
-  -- a part with a byte behind it, and one with none
-  pub part_more : (w : List ℕ) → w ≡ front (drop at bs) → drop (at + length w + 1) bs ≡ past_part (drop at bs)
-  part_more w e = sym (drop-drop (length (front (drop at bs)) + 1) at bs ∙ ap (λ n. drop n bs) (omega (arith, ap length e)))
-
-  pub part_end : (w : List ℕ) → w ≡ front (drop at bs) → length bs ≤ at + length w → drop (length bs) bs ≡ past_part (drop at bs)
-  part_end w e h = drop_all (length bs) bs (omega arith) ∙ sym (drop_all (at + length w + 1) bs (omega arith)) ∙ part_more w e
+-- what follows the first line, by the place where it ends
+pub line_place : (bs : List ℕ) → drop (position_or_len (λ b. b == 10) bs + 1) bs ≡ past_line bs
+line_place [] = refl
+line_place (b ∷ bs) = by (b == 10) (line_place bs)
+  where
+    by : (t : Bool) → drop (position_or_len (λ b. b == 10) bs + 1) bs ≡ past_line bs → drop (cond (not t) (1 + position_or_len (λ b. b == 10) bs) 0 + 1) (b ∷ bs) ≡ cond t bs (past_line bs)
+    by true e = refl
+    by false e = ap (λ k. drop k (b ∷ bs)) (swap (position_or_len (λ b. b == 10) bs)) ∙ e
+      where
+        swap : (n : ℕ) → 1 + n + 1 ≡ suc (n + 1)
+        swap n = omega arith
 
 -- one part more
 pub parts_more : (n : ℕ) (bs : List ℕ) → parts_on (n + 1) bs ≡ past_part (parts_on n bs)
@@ -68,11 +62,14 @@ lines_start n bs =
     ap (λ k. drop k bs) is ∙ sym r.2
 
 -- one row more
-pub starts_more : (k at : ℕ) (bs xs : List ℕ) → xs ≡ row_starts k bs → at ≤ length bs → drop at bs ≡ lines_on (suc k) bs → xs ++ (at ∷ []) ≡ row_starts (k + 1) bs
+pub starts_more : (k : ℕ) (bs xs rest : List ℕ) → xs ≡ row_starts k bs → rest ≡ lines_on (suc k) bs → xs ++ ((length bs - length rest) ∷ []) ≡ row_starts (k + 1) bs
 unfolding row_starts
-starts_more k at bs xs e h d =
-    let is : at ≡ length bs - length (lines_on (suc k) bs) = omega (arith, ap length d, length-drop at bs) in
-    (λ i. e i ++ (is i ∷ [])) ∙ sym (map-range_with_len_more (λ i. length bs - length (lines_on (suc i) bs)) 0 k k (omega arith))
+starts_more k bs xs rest e d =
+    (λ i. e i ++ ((length bs - length (d i)) ∷ [])) ∙ sym (map-range_with_len_more (λ i. length bs - length (lines_on (suc i) bs)) 0 k k (omega arith))
+
+-- what follows some lines is no longer than the text
+pub lines_long : (n : ℕ) (bs : List ℕ) → length (lines_on n bs) ≤ length bs
+lines_long n bs = let r = lines_suffix n bs in omega (arith, r.1, ap length r.2, length-drop r.0 bs)
 
 pub starts_none : (bs : List ℕ) → [] ≡ row_starts 0 bs
 unfolding row_starts

@@ -20,10 +20,10 @@ fn row_starts(heap: Global, bytes: &[u8], rows: usize) -> Result<Vec<usize>, Ref
     ensures { MatchResult result (λ v. v.items ≡ row_starts rows bytes.now) (λ e. e ≡ NoMemory) }
 {
     let mut starts = Vec::new(heap);
-    let mut at = 0;
+    let mut rest = bytes;
     for k in 0..rows {
-        at = next_line(bytes, at);
-        starts.push(at)?;
+        rest = next_line(rest);
+        starts.push(bytes.len() - rest.len())?;
     }
     Ok(starts)
 }
@@ -40,20 +40,15 @@ impl<'a, M: CodedMark> Text<'a, M> {
     pub fn new(heap: Global, bytes: &'a [u8]) -> Result<Text<'a, M>, Refusal>
         ensures { TextTold M.Spelled.named M.Spelled.spelled bytes.now (answered (λ s. in_text M.CodedMark.decoded M.Spelled.spelled s.rows s.cols s.bytes.now) (told result)) }
     {
-        let (rows, cols) = match check_text::<M>(bytes) {
-            Ok(sides) => sides,
-            Err(refusal) => return Err(refusal),
-        };
-        match row_starts(heap, bytes, rows) {
-            Ok(starts) => Ok(Text {
-                rows,
-                cols,
-                bytes,
-                starts,
-                kind: PhantomData,
-            }),
-            Err(refusal) => Err(refusal),
-        }
+        let (rows, cols) = check_text::<M>(bytes)?;
+        let starts = row_starts(heap, bytes, rows)?;
+        Ok(Text {
+            rows,
+            cols,
+            bytes,
+            starts,
+            kind: PhantomData,
+        })
     }
 }
 
@@ -77,12 +72,13 @@ impl<'a, M: CodedMark> Sheet for Text<'a, M> {
         if leaves_sides(self.rows, self.cols, row, col, len) {
             return Err(Refusal::Outside);
         }
-        let first = skip_parts(self.bytes, self.starts[row], 2);
-        let from = skip_parts(self.bytes, first, col);
-        if !readable::<M>(self.bytes, from, len) {
+        let line = &self.bytes[self.starts[row]..];
+        let first = skip_parts(line, 2);
+        let from = skip_parts(first, col);
+        if !readable::<M>(from, len) {
             return Err(Refusal::DeadCell);
         }
-        fill::<M>(self.bytes, from, out);
+        fill::<M>(from, out);
         Ok(())
     }
 }

@@ -1,47 +1,39 @@
 // Going through a text part by part.
-ghost use Rattle.std.specs.Prelude.{◌≡◌, ◌<◌, ◌≤◌, length, drop};
+ghost use Rattle.std.specs.Prelude.{◌≡◌, ◌==◌, position};
 ghost use Rattle.brackets.specs.Lines.{past_part, parts_on, past_line};
 
 use texts::written;
 
-// Where the text goes on behind the part at `at` and the byte that ends it.
-pub(crate) fn next_part(bytes: &[u8], at: usize) -> usize
-    requires { at ≤ length bytes.now }
-    ensures within { result ≤ length bytes.now }
-    ensures value { drop result bytes.now ≡ past_part (drop at bytes.now) }
+// What follows the first part and the byte that ends it.
+pub(crate) fn next_part<'a>(text: &'a [u8]) -> &'a [u8]
+    ensures { result.now ≡ past_part text.now }
 {
-    let end = at + written(bytes, at).len();
-    if end >= bytes.len() {
-        return bytes.len();
-    }
-    end + 1
+    let end = written(text, 0).len();
+    text.get(end + 1..).unwrap_or(&[])
 }
 
-// Where it goes on behind n parts.
-pub(crate) fn skip_parts(bytes: &[u8], from: usize, n: usize) -> usize
-    requires { from ≤ length bytes.now }
-    ensures within { result ≤ length bytes.now }
-    ensures value { drop result bytes.now ≡ parts_on n (drop from bytes.now) }
+// What follows the first n parts.
+pub(crate) fn skip_parts<'a>(text: &'a [u8], n: usize) -> &'a [u8]
+    ensures { result.now ≡ parts_on n text.now }
 {
-    let mut at = from;
+    let mut rest = text;
     for k in 0..n {
-        at = next_part(bytes, at);
+        rest = next_part(rest);
     }
-    at
+    rest
 }
 
-// Where the line after the one at `at` begins.
-pub(crate) fn next_line(bytes: &[u8], from: usize) -> usize
-    requires { from ≤ length bytes.now }
-    ensures within { result ≤ length bytes.now }
-    ensures value { drop result bytes.now ≡ past_line (drop from bytes.now) }
+// Where the first line ends.
+fn line_end(text: &[u8]) -> Option<usize>
+    ensures { result ≡ position (λ b. b == 10) text.now }
 {
-    let mut at = from;
-    while at < bytes.len() {
-        if bytes[at] == b'\n' {
-            return at + 1;
-        }
-        at += 1;
-    }
-    at
+    text.iter().position(|b| *b == b'\n')
+}
+
+// What follows the first line.
+pub(crate) fn next_line<'a>(text: &'a [u8]) -> &'a [u8]
+    ensures { result.now ≡ past_line text.now }
+{
+    let end = line_end(text).unwrap_or(text.len());
+    text.get(end + 1..).unwrap_or(&[])
 }

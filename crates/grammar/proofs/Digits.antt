@@ -1,5 +1,5 @@
 -- Beginnings of decimal numbers. Assumes nothing.
-use Rattle.std.proofs.Common.{◌≡◌, ℕ, ◌+◌, ◌*◌, ◌/◌, ◌%◌, ◌^◌, ◌<◌, ◌≤◌, List, [], ◌∷◌, ◌++◌, length, get_or, drop, decimal, sym, refl, ap, ◌∙◌, inl, inr, ⊎_elim, append_assoc, append-nil, arith, length-append, length-drop}
+use Rattle.std.proofs.Common.{◌≡◌, ℕ, ◌+◌, ◌*◌, ◌/◌, ◌%◌, ◌^◌, ◌<◌, ◌≤◌, List, [], ◌∷◌, ◌++◌, length, get_or, drop, decimal, sym, ap, ◌∙◌, inr, ⊎_elim, append_assoc, append-nil, arith, length-append, length-drop}
 use Rattle.std.proofs.lemmas.Bool.{cases_lt}
 use Rattle.std.proofs.lemmas.List.{drop_more, same_from_push}
 use Rattle.std.proofs.lemmas.Fmt.{decimal_digit, decimal_step, decimal_by_steps, decimal_nonempty, decimal_injective}
@@ -75,17 +75,14 @@ last_digit max n k b u small h e pos le =
     long : k < 10 → u ≡ decimal n → 1 ≤ n → n ≤ max → ⊥
     long lt is some most = omega (arith, ap length (e ∙ decimal_digit k lt), length-append u (b ∷ []), ap length is, decimal_nonempty n (omega arith))
 
-pub part_none : (max at : ℕ) (bs : List ℕ) → Part max at bs at 0
-part_none max at bs = record { read = []; split = refl; place = omega arith; within = λ h. h; begun = inl (refl, refl) }
-
 module _ (max at : ℕ) (bs : List ℕ) (end n : ℕ) (small : max < 2 ^ 32) (h : Part max at bs end n) where
-  pub part_more : (d : ℕ) → end < length bs → d < 10 → get_or bs end 0 ≡ 48 + d → 1 ≤ n * 10 + d → n * 10 + d ≤ max → Part max at bs (end + 1) (n * 10 + d)
-  part_more d more lt is pos le = record {
+  pub part_more : (d e m : ℕ) → e ≡ end + 1 → m ≡ n * 10 + d → end < length bs → d < 10 → get_or bs end 0 ≡ 48 + d → 1 ≤ m → m ≤ max → Part max at bs e m
+  part_more d e m next more inside lt is pos le = record {
     read = h.read ++ ((48 + d) ∷ []);
-    split = h.split ∙ ap (λ w. h.read ++ w) (drop_more bs end 0 more ∙ ap (λ b. b ∷ drop (end + 1) bs) is) ∙ sym (append_assoc h.read ((48 + d) ∷ []) (drop (end + 1) bs));
+    split = h.split ∙ ap (λ w. h.read ++ w) (drop_more bs end 0 inside ∙ (λ i. is i ∷ drop (sym next i) bs)) ∙ sym (append_assoc h.read ((48 + d) ∷ []) (drop e bs));
     place = omega (arith, h.place, length-append h.read ((48 + d) ∷ []));
     within = λ k. omega arith;
-    begun = inr (begun_more max n d h.read small h.begun lt pos le, pos, le);
+    begun = inr (begun_more max n d h.read small h.begun lt (omega arith) (omega arith) ∙ ap decimal (sym more), pos, le);
   }
 
   pub natural_ends : (end < length bs → (d : ℕ) → d < 10 → get_or bs end 0 ≡ 48 + d → 1 ≤ n * 10 + d → n * 10 + d ≤ max → ⊥) → Natural max at bs end n

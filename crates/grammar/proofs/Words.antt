@@ -1,14 +1,10 @@
 -- One word, byte by byte. Assumes nothing.
-use Rattle.std.proofs.Common.{◌≡◌, ℕ, ◌+◌, ◌<◌, ◌≤◌, List, [], ◌∷◌, ◌++◌, length, get_or, take, drop, sym, ap, ◌∙◌, append_assoc, arith, length-drop, take-append-drop}
+use Rattle.std.proofs.Common.{◌≡◌, ℕ, ◌+◌, ◌-◌, ◌<◌, ◌≤◌, ◌⊎◌, List, [], ◌∷◌, ◌++◌, length, get_or, take, drop, Some, None, Option, MatchOption, unwrap_or, Bor, slice_range, ⊎_elim, sym, ap, ◌∙◌, append_assoc, arith, length-drop, take-append-drop}
 use mathlib.Core.List.{append_cancel_left}
-use Rattle.std.proofs.lemmas.List.{take_more, drop_more, length-take-le, take_all}
-use Rattle.grammar.specs.Grammars.{Lost, Found, lit}
+use Rattle.std.proofs.lemmas.List.{drop_more, drop_all, length-take-le, take_all}
+use Rattle.grammar.specs.Grammars.{Lost, lit}
 
 module _ (w bs : List ℕ) (at end i : ℕ) (is : end ≡ at + i) (split : drop at bs ≡ take i w ++ drop end bs) where
-  pub word_more : i < length w → end < length bs → get_or bs end 0 ≡ get_or w i 0 → drop at bs ≡ take (i + 1) w ++ drop (end + 1) bs
-  word_more h k e =
-      split ∙ ap (λ x. take i w ++ x) (drop_more bs end 0 k ∙ ap (λ b. b ∷ drop (end + 1) bs) e) ∙ sym (append_assoc (take i w) (get_or w i 0 ∷ []) (drop (end + 1) bs)) ∙ ap (λ x. x ++ drop (end + 1) bs) (sym (take_more w i 0 h))
-
   pub word_lost : i < length w → (end < length bs → get_or bs end 0 ≡ get_or w i 0 → ⊥) → Lost (lit w) at (drop at bs) end
   word_lost h apart = record {
     before = take i w;
@@ -31,10 +27,7 @@ module _ (w bs : List ℕ) (at end i : ℕ) (is : end ≡ at + i) (split : drop 
       long : length (take i w) ≡ i
       long = length-take-le i w (omega arith)
 
-  pub word_found : length w ≤ i → i ≤ length w → Found (lit w) at (drop at bs) tt end
-  word_found h k = record {
-    valid = tt;
-    after = drop end bs;
-    split = split ∙ ap (λ x. x ++ drop end bs) (take_all i w h);
-    place = omega arith;
-  }
+-- what stands from a place on, which is nothing past the end
+pub behind_is : (bs : List ℕ) (at : ℕ) (o : Option (Bor (List ℕ))) (none : Bor (List ℕ)) → none.now ≡ [] → MatchOption o ((length bs < at) ⊎ (length bs < length bs)) (λ x. (at ≤ length bs) × (length bs ≤ length bs) × (x.now ≡ slice_range bs at (length bs)) × (length x.now + at ≡ length bs)) → (unwrap_or o none).now ≡ drop at bs
+behind_is bs at None none e h = e ∙ sym (drop_all at bs (⊎_elim (λ k. omega arith) (λ k. omega arith) h))
+behind_is bs at (Some x) none e h = h.2 ∙ take_all (length bs - at) (drop at bs) (omega (arith, length-drop at bs))

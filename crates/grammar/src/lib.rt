@@ -1,7 +1,7 @@
 // Texts by the grammar that they are written in, and reading by one.
 #![tactic(auto)]
 
-ghost use Rattle.std.specs.Prelude.{◌≡◌, ℕ, ◌^◌, ◌<◌, ◌≤◌, length, drop};
+ghost use Rattle.std.specs.Prelude.{◌≤◌, length, drop, unwrap_or, IfSome};
 ghost use Rattle.grammar.specs.Grammars.{Reads, lit};
 ghost use Rattle.grammar.specs.Decimals.{Natural};
 
@@ -9,42 +9,30 @@ ghost use Rattle.grammar.specs.Decimals.{Natural};
 pub fn literal(bytes: &[u8], at: usize, word: &[u8]) -> Result<usize, usize>
     ensures { Reads (lit word.now) at (drop at bytes.now) result }
 {
-    let mut end = at;
-    for b in word {
-        if end >= bytes.len() {
-            return Err(end);
+    for (i, b) in word.iter().enumerate() {
+        if bytes.get(at + i) != Some(b) {
+            return Err(at + i);
         }
-        if bytes[end] != *b {
-            return Err(end);
-        }
-        end += 1;
     }
-    Ok(end)
+    Ok(at + word.len())
 }
 
-// Reads the longest beginning at `at` that some decimal number from 1 to `max` has: its end, and its number or 0.
-pub fn natural(bytes: &[u8], at: usize, max: u32) -> (usize, usize)
-    ensures { Natural max at bytes.now result.0 result.1 }
+// Reads the longest beginning at `at` that some decimal number from 1 to `max` has: its end, and the number, if it is one.
+pub fn natural(bytes: &[u8], at: usize, max: u32) -> (usize, Option<usize>)
+    ensures read { Natural max at bytes.now result.0 (unwrap_or result.1 0) }
+    ensures some { IfSome result.1 (λ n. 1 ≤ n) }
 {
-    let mut end = at;
-    let mut n = 0;
-    while end < bytes.len() {
-        let b = bytes[end];
-        if b < b'0' {
-            return (end, n);
+    let rest = bytes.get(at..).unwrap_or(&[]);
+    let mut n = None;
+    for (i, b) in rest.iter().enumerate() {
+        if !b.is_ascii_digit() {
+            return (at + i, n);
         }
-        if b > b'9' {
-            return (end, n);
+        let next = n.unwrap_or(0) * 10 + (b - b'0') as usize;
+        if next == 0 || next > max as usize {
+            return (at + i, n);
         }
-        let next = n * 10 + (b - b'0') as usize;
-        if next == 0 {
-            return (end, n);
-        }
-        if next > max as usize {
-            return (end, n);
-        }
-        n = next;
-        end += 1;
+        n = Some(next);
     }
-    (end, n)
+    (at + rest.len(), n)
 }

@@ -1,8 +1,10 @@
 -- The line of cuts, part by part. Assumes nothing.
-use Rattle.std.proofs.Common.{◌≡◌, ℕ, zero, suc, ◌≤◌, List, [], ◌∷◌, ◌++◌, length, drop, codes, decimal, sym, refl, ap, ◌∙◌, append_assoc, arith}
+use Rattle.std.proofs.Common.{◌≡◌, ℕ, zero, suc, List, [], ◌∷◌, ◌++◌, length, drop, codes, decimal, sym, refl, ap, ◌∙◌, append_assoc, arith}
 use mathlib.Core.List.{append_cancel_left}
-use Rattle.grammar.specs.Grammars.{Grammar, Found, Lost, Code, After, lit, seq}
+use Rattle.grammar.specs.Grammars.{Grammar, Code, After, lit, seq}
 use Rattle.grammar.proofs.Theory.{code_lit, code_seq, sofar_none, sofar_turn, sofar_lost}
+use Rattle.texts.specs.Cursors.{Behind, LostAt}
+use Rattle.texts.specs.declared.cursor.Cursor.{Cursor}
 use Rattle.texts.proofs.Going.{Going, going_none, going_lost, step_lost, step_found}
 use Rattle.texts.proofs.Heads.{both_found}
 use Rattle.brackets.specs.Writes.{blanked}
@@ -84,46 +86,46 @@ lines_by_parts = record {
   from = λ z vz x e. ((tt, (z.0, (tt, (z.1, tt)))), (tt, (vz.0, (tt, (vz.1, tt)))), sym e ∙ line_text z.0 z.1);
 }
 
-module _ (bytes : List ℕ) (from : ℕ) (inside : from ≤ length bytes) where
-  begun : Going line from bytes line from
-  begun = going_none line from bytes inside
+module _ (c : Cursor) where
+  begun : Going line c line c
+  begun = going_none line c
 
-  lost : (p : ℕ) → Lost line from (drop from bytes) p → Lost cuts_lines from (drop from bytes) p
-  lost p h = sofar_lost (sofar_turn (sofar_none cuts_lines from (drop from bytes)) lines_by_parts) p h
+  lost : (p : ℕ) → LostAt line c p → LostAt cuts_lines c p
+  lost p h = sofar_lost (sofar_turn (sofar_none cuts_lines c.at (drop c.at c.bytes.now)) lines_by_parts) p h
 
-  pub lost0 : (p : ℕ) → Lost L0 from (drop from bytes) p → Lost cuts_lines from (drop from bytes) p
+  pub lost0 : (p : ℕ) → LostAt L0 c p → LostAt cuts_lines c p
   lost0 p h = lost p (step_lost L0 (λ _. T1) (code_lit (codes "(cuts (down")) begun (λ _ _. some1) p h)
 
-  module _ (u0 : Unit {0}) (e0 : ℕ) (h0 : Found L0 from (drop from bytes) u0 e0) where
-    pub going1 : Going line from bytes T1 e0
+  module _ (u0 : Unit {0}) (e0 : Cursor) (h0 : Behind L0 c u0 e0) where
+    pub going1 : Going line c T1 e0
     going1 = step_found L0 (λ _. T1) (code_lit (codes "(cuts (down")) begun u0 e0 h0
 
-    pub lost1 : (p : ℕ) → Lost cuts e0 (drop e0 bytes) p → Lost cuts_lines from (drop from bytes) p
+    pub lost1 : (p : ℕ) → LostAt cuts e0 p → LostAt cuts_lines c p
     lost1 p h = lost p (step_lost cuts (λ _. T2) code_cuts going1 (λ _ _. some2) p h)
 
-    module _ (d : List ℕ) (e1 : ℕ) (h1 : Found cuts e0 (drop e0 bytes) d e1) where
-      going2 : Going line from bytes T2 e1
+    module _ (d : List ℕ) (e1 : Cursor) (h1 : Behind cuts e0 d e1) where
+      going2 : Going line c T2 e1
       going2 = step_found cuts (λ _. T2) code_cuts going1 d e1 h1
 
-      pub lost2 : (p : ℕ) → Lost L2 e1 (drop e1 bytes) p → Lost cuts_lines from (drop from bytes) p
+      pub lost2 : (p : ℕ) → LostAt L2 e1 p → LostAt cuts_lines c p
       lost2 p h = lost p (step_lost L2 (λ _. T3) (code_lit (codes " (across")) going2 (λ _ _. some3) p h)
 
-      module _ (u2 : Unit {0}) (e2 : ℕ) (h2 : Found L2 e1 (drop e1 bytes) u2 e2) where
-        pub going3 : Going line from bytes T3 e2
+      module _ (u2 : Unit {0}) (e2 : Cursor) (h2 : Behind L2 e1 u2 e2) where
+        pub going3 : Going line c T3 e2
         going3 = step_found L2 (λ _. T3) (code_lit (codes " (across")) going2 u2 e2 h2
 
-        pub lost3 : (p : ℕ) → Lost cuts e2 (drop e2 bytes) p → Lost cuts_lines from (drop from bytes) p
+        pub lost3 : (p : ℕ) → LostAt cuts e2 p → LostAt cuts_lines c p
         lost3 p h = lost p (step_lost cuts (λ _. L4) code_cuts going3 (λ _ _. (tt, tt)) p h)
 
-        module _ (a : List ℕ) (e3 : ℕ) (h3 : Found cuts e2 (drop e2 bytes) a e3) where
-          pub lost4 : (p : ℕ) → Lost L4 e3 (drop e3 bytes) p → Lost cuts_lines from (drop from bytes) p
+        module _ (a : List ℕ) (e3 : Cursor) (h3 : Behind cuts e2 a e3) where
+          pub lost4 : (p : ℕ) → LostAt L4 e3 p → LostAt cuts_lines c p
           lost4 p h = lost p (going_lost (step_found cuts (λ _. L4) code_cuts going3 a e3 h3) p h)
 
-          pub found4 : (u4 : Unit {0}) (end : ℕ) → Found L4 e3 (drop e3 bytes) u4 end → Found cuts_lines from (drop from bytes) (d, a) end
+          pub found4 : (u4 : Unit {0}) (end : Cursor) → Behind L4 e3 u4 end → Behind cuts_lines c (d, a) end
           found4 u4 end h4 =
-              let all = both_found L0 (λ _. T1) bytes from e0 end tt (d, (tt, (a, tt))) h0
-              (both_found cuts (λ _. T2) bytes e0 e1 end d (tt, (a, tt)) h1
-              (both_found L2 (λ _. T3) bytes e1 e2 end tt (a, tt) h2
-              (both_found cuts (λ _. L4) bytes e2 e3 end a tt h3 h4))) in
+              let all = both_found L0 (λ _. T1) c e0 end tt (d, (tt, (a, tt))) h0
+              (both_found cuts (λ _. T2) e0 e1 end d (tt, (a, tt)) h1
+              (both_found L2 (λ _. T3) e1 e2 end tt (a, tt) h2
+              (both_found cuts (λ _. L4) e2 e3 end a tt h3 h4))) in
               let is = line_text d a in
-              record { valid = (h1.valid, h3.valid); after = all.after; split = all.split ∙ ap (λ w. w ++ all.after) (sym is); place = omega (arith, all.place, ap length is) }
+              record { same = all.same; found = record { valid = (h1.found.valid, h3.found.valid); after = all.found.after; split = all.found.split ∙ ap (λ w. w ++ all.found.after) (sym is); place = omega (arith, all.found.place, ap length is) } }

@@ -1,23 +1,20 @@
 -- The cuts of one side, one after another. Assumes nothing.
-use Rattle.std.proofs.Common.{◌≡◌, ℕ, zero, suc, ◌+◌, ◌-◌, ◌≤◌, Bool, true, false, List, [], ◌∷◌, ◌++◌, length, take, drop, set, decimal, sym, refl, ap, ◌∙◌, subst, inl, inr, append_assoc, append-nil, add-one, arith, length-append, length-set}
+use Rattle.std.proofs.Common.{◌≡◌, ℕ, zero, suc, ◌+◌, ◌-◌, ◌≤◌, Bool, true, false, List, [], ◌∷◌, ◌++◌, length, take, drop, set, decimal, sym, refl, ap, ◌∙◌, subst, append_assoc, append-nil, arith, length-append, length-set}
 use mathlib.Core.List.{append_cancel_left}
 use Rattle.std.proofs.lemmas.List.{take_more_set, length-take-le}
 use Rattle.std.proofs.lemmas.Fmt.{decimal_injective}
-use Rattle.grammar.specs.Grammars.{Found, Lost, Code, After, seq}
+use Rattle.grammar.specs.Grammars.{Code, After, seq}
 use Rattle.grammar.proofs.Theory.{drop_past}
-use Rattle.marks.specs.Spellings.{Separator}
 use Rattle.texts.specs.Tokens.{front}
 use Rattle.texts.proofs.Scans.{free_naturals}
+use Rattle.texts.specs.Cursors.{Behind, LostAt}
+use Rattle.texts.specs.declared.cursor.Cursor.{Cursor}
 use Rattle.texts.proofs.Going.{Going, going_none, going_turn, step_lost, step_found}
 use Rattle.brackets.specs.Writes.{blanked}
 use Rattle.brackets.proofs.Back.{front_of}
 use Rattle.inputs.specs.Cuts.{UpTo}
 use Rattle.inputs.specs.Steps.{mark, marks, cut, cuts, Follows, tail, follow}
-
--- a blank and a bracket end what stands before them
-pub mark_separates : (v : Bool) → Separator (mark v)
-mark_separates true = inl (inl refl)
-mark_separates false = inr (inr refl)
+use Rattle.inputs.proofs.Marks.{mark_separates}
 
 pub same_mark : (s t : Bool) → mark s ≡ mark t → s ≡ t
 same_mark true true e = refl
@@ -113,78 +110,74 @@ blanked_push [] c = ap (λ w. 32 ∷ w) (append-nil (decimal c))
 blanked_push (x ∷ cs) c = ap (λ w. 32 ∷ w) (ap (λ w. decimal x ++ w) (blanked_push cs c) ∙ sym (append_assoc (decimal x) (blanked decimal cs) (32 ∷ decimal c)))
 
 -- so many cuts were read, and more says whether another follows
-pub record Listed (bytes : List ℕ) (from : ℕ) (places : List ℕ) (count : ℕ) (more : Bool) (at : ℕ) : Type 0 where
+pub record Listed (c : Cursor) (places : List ℕ) (count : ℕ) (more : Bool) (d : Cursor) : Type 0 where
   pub long : length places ≡ 31
   pub few : count ≤ 31
   pub room : more ≡ true → count ≤ 30
-  pub within : at ≤ length bytes
-  pub going : Going cuts from bytes (follow (31 - count) more) at
+  pub going : Going cuts c (follow (31 - count) more) d
   pub each : Each (take count places)
-  pub split : drop from bytes ≡ (blanked decimal (take count places) ++ (mark more ∷ [])) ++ drop at bytes
-  pub place : at ≡ from + length (blanked decimal (take count places) ++ (mark more ∷ []))
+  pub split : drop c.at c.bytes.now ≡ (blanked decimal (take count places) ++ (mark more ∷ [])) ++ drop d.at d.bytes.now
+  pub place : d.at ≡ c.at + length (blanked decimal (take count places) ++ (mark more ∷ []))
 
-module _ (bytes : List ℕ) (from : ℕ) (inside : from ≤ length bytes) where
-  begun : Going cuts from bytes (seq (marks 31) (λ v. follow 31 v)) from
-  begun = going_turn (going_none cuts from bytes inside) cuts_by_mark
+module _ (c : Cursor) where
+  begun : Going cuts c (seq (marks 31) (λ v. follow 31 v)) c
+  begun = going_turn (going_none cuts c) cuts_by_mark
 
-  pub first_lost : (p : ℕ) → Lost (marks 31) from (drop from bytes) p → Lost cuts from (drop from bytes) p
+  pub first_lost : (p : ℕ) → LostAt (marks 31) c p → LostAt cuts c p
   first_lost p h = step_lost (marks 31) (λ v. follow 31 v) (code_marks 31) begun (λ v ok. some_follow 31 v ok) p h
 
-  pub listed_none : (places : List ℕ) (v : Bool) → length places ≡ 31 → Found (marks 31) from (drop from bytes) v (suc from) → Listed bytes from places 0 v (from + 1)
-  listed_none places v long h =
-      let g = step_found (marks 31) (λ v. follow 31 v) (code_marks 31) begun v (suc from) h in
-      let e : suc from ≡ from + 1 = sym (add-one from) in
-      let rest = drop_past bytes (mark v ∷ []) h.after from (suc from) h.split h.place in
-      record {
-        long = long;
-        few = omega arith;
-        room = λ _. omega arith;
-        within = subst (λ k. k ≤ length bytes) e g.within;
-        going = subst (λ k. Going cuts from bytes (follow 31 v) k) e g;
-        each = tt;
-        split = h.split ∙ ap (λ w. mark v ∷ w) (rest ∙ ap (λ k. drop k bytes) e);
-        place = refl;
-      }
+  pub listed_none : (places : List ℕ) (v : Bool) (d : Cursor) → length places ≡ 31 → Behind (marks 31) c v d → Listed c places 0 v d
+  listed_none places v d long h = record {
+    long = long;
+    few = omega arith;
+    room = λ _. omega arith;
+    going = step_found (marks 31) (λ v. follow 31 v) (code_marks 31) begun v d h;
+    each = tt;
+    split = h.found.split ∙ ap (λ w. mark v ∷ w) (drop_past c.bytes.now (mark v ∷ []) h.found.after c.at d.at h.found.split h.found.place ∙ ap (drop d.at) (sym h.same));
+    place = h.found.place;
+  }
 
-module _ (bytes : List ℕ) (from : ℕ) (places : List ℕ) (count at : ℕ) (s : Listed bytes from places count true at) where
-  next_cut : Going cuts from bytes (seq (cut (30 - count)) (λ z. follow (30 - count) z.1)) at
+module _ (c : Cursor) (places : List ℕ) (count : ℕ) (d : Cursor) (s : Listed c places count true d) where
+  next_cut : Going cuts c (seq (cut (30 - count)) (λ z. follow (30 - count) z.1)) d
   next_cut =
       let e : 31 - count ≡ suc (30 - count) = (let k = s.room refl in omega arith) in
-      going_turn (subst (λ n. Going cuts from bytes (follow n true) at) e s.going) (follow_by_cut (30 - count))
+      going_turn (subst (λ n. Going cuts c (follow n true) d) e s.going) (follow_by_cut (30 - count))
 
-  pub cut_not_there : (p : ℕ) → Lost (cut (30 - count)) at (drop at bytes) p → Lost cuts from (drop from bytes) p
+  pub cut_not_there : (p : ℕ) → LostAt (cut (30 - count)) d p → LostAt cuts c p
   cut_not_there p h = step_lost (cut (30 - count)) (λ z. follow (30 - count) z.1) (code_cut (30 - count)) next_cut (λ z ok. some_follow (30 - count) z.1 ok.1) p h
 
-  pub listed_more : (n : ℕ) (v : Bool) (end : ℕ) → Found (cut (30 - count)) at (drop at bytes) (n, v) end → Listed bytes from (set places count n) (count + 1) v end
-  listed_more n v end h =
+  pub listed_more : (n : ℕ) (v : Bool) (f : Cursor) → Behind (cut (30 - count)) d (n, v) f → Listed c (set places count n) (count + 1) v f
+  listed_more n v f h =
       let less : count ≤ 30 = s.room refl in
-      let g = step_found (cut (30 - count)) (λ z. follow (30 - count) z.1) (code_cut (30 - count)) next_cut (n, v) end h in
+      let g = step_found (cut (30 - count)) (λ z. follow (30 - count) z.1) (code_cut (30 - count)) next_cut (n, v) f h in
       let e : 30 - count ≡ 31 - (count + 1) = omega arith in
       let xs = take count places in
       let taken : take (count + 1) (set places count n) ≡ xs ++ (n ∷ []) = take_more_set places count n (omega (arith, s.long)) in
       let text : blanked decimal (take (count + 1) (set places count n)) ++ (mark v ∷ []) ≡ (blanked decimal xs ++ (32 ∷ [])) ++ (decimal n ++ (mark v ∷ [])) =
       ap (λ cs. blanked decimal cs ++ (mark v ∷ [])) taken ∙ ap (λ w. w ++ (mark v ∷ [])) (blanked_push xs n) ∙ regroup (blanked decimal xs) (decimal n) (mark v ∷ []) in
-      let rest = drop_past bytes (decimal n ++ (mark v ∷ [])) h.after at end h.split h.place in
+      let rest = drop_past d.bytes.now (decimal n ++ (mark v ∷ [])) h.found.after d.at f.at h.found.split h.found.place ∙ ap (drop f.at) (sym h.same) in
       record {
         long = length-set places count n ∙ s.long;
         few = omega arith;
-        room = λ t. (let k = h.valid.1 t in omega arith);
-        within = g.within;
-        going = subst (λ k. Going cuts from bytes (follow k v) end) e g;
-        each = subst Each (sym taken) (each_push xs n s.each h.valid.0);
-        split = s.split ∙ ap (λ w. (blanked decimal xs ++ (32 ∷ [])) ++ w) (h.split ∙ ap (λ w. (decimal n ++ (mark v ∷ [])) ++ w) rest) ∙ sym (append_assoc (blanked decimal xs ++ (32 ∷ [])) (decimal n ++ (mark v ∷ [])) (drop end bytes)) ∙ ap (λ w. w ++ drop end bytes) (sym text);
-        place = omega (arith, s.place, h.place, ap length text, length-append (blanked decimal xs ++ (32 ∷ [])) (decimal n ++ (mark v ∷ [])));
+        room = λ t. (let k = h.found.valid.1 t in omega arith);
+        going = subst (λ k. Going cuts c (follow k v) f) e g;
+        each = subst Each (sym taken) (each_push xs n s.each h.found.valid.0);
+        split = s.split ∙ ap (λ w. (blanked decimal xs ++ (32 ∷ [])) ++ w) (h.found.split ∙ ap (λ w. (decimal n ++ (mark v ∷ [])) ++ w) rest) ∙ sym (append_assoc (blanked decimal xs ++ (32 ∷ [])) (decimal n ++ (mark v ∷ [])) (drop f.at f.bytes.now)) ∙ ap (λ w. w ++ drop f.at f.bytes.now) (sym text);
+        place = omega (arith, s.place, h.found.place, ap length text, length-append (blanked decimal xs ++ (32 ∷ [])) (decimal n ++ (mark v ∷ [])));
       }
     where
       regroup : (a b c : List ℕ) → (a ++ (32 ∷ b)) ++ c ≡ (a ++ (32 ∷ [])) ++ (b ++ c)
       regroup a b c = simp append_assoc
 
-pub listed_all : (bytes : List ℕ) (from : ℕ) (places : List ℕ) (count : ℕ) (more : Bool) (at : ℕ) → more ≡ false → Listed bytes from places count more at → Found cuts from (drop from bytes) (take count places) at
-listed_all bytes from places count more at e s =
+pub listed_all : (c : Cursor) (places : List ℕ) (count : ℕ) (more : Bool) (d : Cursor) → more ≡ false → Listed c places count more d → Behind cuts c (take count places) d
+listed_all c places count more d e s =
     let text : blanked decimal (take count places) ++ (mark more ∷ []) ≡ blanked decimal (take count places) ++ (41 ∷ []) = ap (λ v. blanked decimal (take count places) ++ (mark v ∷ [])) e in
     record {
-      valid = each_up_to 31 (take count places) s.each (omega (arith, length-take-le count places (omega (arith, s.few, s.long)), s.few));
-      after = drop at bytes;
-      split = s.split ∙ ap (λ w. w ++ drop at bytes) text;
-      place = s.place ∙ ap (λ w. from + length w) text;
+      same = s.going.same;
+      found = record {
+        valid = each_up_to 31 (take count places) s.each (omega (arith, length-take-le count places (omega (arith, s.few, s.long)), s.few));
+        after = drop d.at d.bytes.now;
+        split = s.split ∙ ap (λ w. w ++ drop d.at d.bytes.now) text;
+        place = s.place ∙ ap (λ w. c.at + length w) text;
+      };
     }

@@ -1,10 +1,11 @@
 -- The line of cuts. Assumes nothing.
 use Rattle.std.specs.Prelude.{ℕ, zero, suc, ◌≤◌, List, [], ◌∷◌, ◌++◌, take, Ok, Err, codes, decimal, Result}
-use Rattle.grammar.specs.Grammars.{Grammar, Found, Lost}
+use Rattle.grammar.specs.Grammars.{Grammar}
 use Rattle.texts.specs.Texts.{spaced}
+use Rattle.texts.specs.Cursors.{Behind, LostAt}
+use Rattle.texts.specs.declared.cursor.Cursor.{Cursor}
 use Rattle.brackets.specs.Writes.{blanked}
 use Rattle.inputs.specs.declared.cuts.Cuts.{Cuts}
-use Rattle.inputs.specs.declared.cuts.CutLine.{CutLine}
 
 -- at most n cuts, each from 1 to 2,047
 abbrev pub UpTo : ℕ → List ℕ → Type 0
@@ -28,7 +29,8 @@ cuts_lines = record { valid = λ z. UpTo 31 z.0 × UpTo 31 z.1; text = λ z. cut
 abbrev pub cuts_of : Cuts → List ℕ
 cuts_of c = take c.count c.places
 
--- what a reader of a line of cuts at a place answers: the cuts, and where the line ends; or where the bytes part from every such line
-abbrev pub ReadsCuts : ℕ → List ℕ → Result CutLine ℕ → Type 0
-ReadsCuts at bs (Ok l) = Found cuts_lines at bs (cuts_of l.down, cuts_of l.across) l.end
-ReadsCuts at bs (Err p) = Lost cuts_lines at bs p
+-- what a reader of a line of cuts at c answers: the cuts, and the cursor behind the line; or where the bytes part from every
+-- such line
+abbrev pub ReadsCuts : Cursor → Result (Cuts × Cuts × Cursor) ℕ → Type 0
+ReadsCuts c (Ok l) = Behind cuts_lines c (cuts_of l.0, cuts_of l.1) l.2
+ReadsCuts c (Err p) = LostAt cuts_lines c p

@@ -1,8 +1,9 @@
 -- The cuts of one side as a reader meets them: a blank or a bracket tells whether one more follows. Assumes nothing.
-use Rattle.std.specs.Prelude.{◌≡◌, ℕ, suc, ◌≤◌, Bool, true, false, cond, List, [], ◌∷◌, ◌++◌, Ok, Err, codes, decimal, Result}
-use Rattle.grammar.specs.Grammars.{Grammar, Found, Lost, lit, seq}
+use Rattle.std.specs.Prelude.{◌≡◌, ℕ, ◌≤◌, Bool, true, false, cond, List, [], ◌∷◌, ◌++◌, Ok, Err, codes, decimal, Result}
+use Rattle.grammar.specs.Grammars.{Grammar, lit, seq}
+use Rattle.texts.specs.Cursors.{Behind, LostAt}
+use Rattle.texts.specs.declared.cursor.Cursor.{Cursor}
 use Rattle.brackets.specs.Writes.{blanked}
-use Rattle.inputs.specs.declared.cuts.Step.{Step}
 use Rattle.inputs.specs.declared.cuts.Cuts.{Cuts}
 use Rattle.inputs.specs.Cuts.{UpTo, cuts_of}
 
@@ -45,14 +46,14 @@ abbrev pub line : Grammar LineOf
 line = seq (lit (codes "(cuts (down")) (λ _. seq cuts (λ _. seq (lit (codes " (across")) (λ _. seq cuts (λ _. lit (41 ∷ 10 ∷ [])))))
 
 -- what a reader of such a byte, of a cut, and of the cuts of one side answers
-abbrev pub ReadsMark : ℕ → ℕ → List ℕ → Result Bool ℕ → Type 0
-ReadsMark n at bs (Ok more) = Found (marks n) at bs more (suc at)
-ReadsMark n at bs (Err p) = Lost (marks n) at bs p
+abbrev pub ReadsMark : ℕ → Cursor → Result (Bool × Cursor) ℕ → Type 0
+ReadsMark n c (Ok s) = Behind (marks n) c s.0 s.1
+ReadsMark n c (Err p) = LostAt (marks n) c p
 
-abbrev pub ReadsCut : ℕ → ℕ → List ℕ → Result Step ℕ → Type 0
-ReadsCut n at bs (Ok s) = Found (cut n) at bs (s.cut, s.more) s.end
-ReadsCut n at bs (Err p) = Lost (cut n) at bs p
+abbrev pub ReadsCut : ℕ → Cursor → Result (ℕ × Bool × Cursor) ℕ → Type 0
+ReadsCut n c (Ok s) = Behind (cut n) c (s.0, s.1) s.2
+ReadsCut n c (Err p) = LostAt (cut n) c p
 
-abbrev pub ReadsSide : ℕ → List ℕ → Result (Cuts × ℕ) ℕ → Type 0
-ReadsSide at bs (Ok r) = Found cuts at bs (cuts_of r.0) r.1
-ReadsSide at bs (Err p) = Lost cuts at bs p
+abbrev pub ReadsSide : Cursor → Result (Cuts × Cursor) ℕ → Type 0
+ReadsSide c (Ok r) = Behind cuts c (cuts_of r.0) r.1
+ReadsSide c (Err p) = LostAt cuts c p

@@ -1,94 +1,48 @@
 // Reading the line of cuts, part by part.
-ghost use Rattle.std.specs.Prelude.{◌<◌, ◌≤◌, length, drop};
 ghost use Rattle.inputs.specs.Cuts.{ReadsCuts};
 ghost use Rattle.inputs.specs.Steps.{ReadsMark, ReadsCut, ReadsSide};
 
-use crate::cuts::{CutLine, Cuts, Step};
-use grammar::{literal, natural};
-use texts::written;
+use crate::cuts::Cuts;
+use texts::Cursor;
 
-// Reads the blank before a cut, or the bracket behind the last.
-fn first_mark(bytes: &[u8], at: usize) -> Result<bool, usize>
-    requires { at ≤ length bytes.now }
-    ensures { ReadsMark 31 at (drop at bytes.now) result }
+// Reads the blank before a cut, where so many may follow, or the bracket behind the last: whether a cut follows.
+fn mark<'a>(from: Cursor<'a>, left: usize) -> Result<(bool, Cursor<'a>), usize>
+    ensures { ReadsMark left from.entry result }
 {
-    if at >= bytes.len() {
-        return Err(at);
+    match from.word(b" ") {
+        Ok(next) if left > 0 => Ok((true, next)),
+        _ => Ok((false, from.word(b")")?)),
     }
-    if bytes[at] == b' ' {
-        return Ok(true);
-    }
-    if bytes[at] == b')' {
-        return Ok(false);
-    }
-    Err(at)
 }
 
-// Reads a cut and the byte that ends it, where so many more may follow.
-fn cut(bytes: &[u8], at: usize, left: usize) -> Result<Step, usize>
-    requires { at ≤ length bytes.now }
-    ensures { ReadsCut left at (drop at bytes.now) result }
+// Reads a cut and the byte that ends it, where so many more may follow: the cut, and whether another follows.
+fn cut<'a>(from: Cursor<'a>, left: usize) -> Result<(usize, bool, Cursor<'a>), usize>
+    ensures { ReadsCut left from.entry result }
 {
-    let word = written(bytes, at);
-    let (len, n) = natural(word, 0, 2047);
-    let stop = at + len;
-    if len < word.len() {
-        return Err(stop);
-    }
-    if n == 0 {
-        return Err(stop);
-    }
-    if stop >= bytes.len() {
-        return Err(stop);
-    }
-    if bytes[stop] == b')' {
-        return Ok(Step {
-            cut: n,
-            more: false,
-            end: stop + 1,
-        });
-    }
-    if bytes[stop] != b' ' {
-        return Err(stop);
-    }
-    if left == 0 {
-        return Err(stop);
-    }
-    Ok(Step {
-        cut: n,
-        more: true,
-        end: stop + 1,
-    })
+    let (cut, stop) = from.number(2047)?;
+    let (more, next) = mark(stop, left)?;
+    Ok((cut, more, next))
 }
 
 // Reads the cuts of one side, and the bracket that ends them.
-fn side_cuts(bytes: &[u8], from: usize) -> Result<(Cuts, usize), usize>
-    requires { from ≤ length bytes.now }
-    ensures { ReadsSide from (drop from bytes.now) result }
+fn side_cuts<'a>(from: Cursor<'a>) -> Result<(Cuts, Cursor<'a>), usize>
+    ensures { ReadsSide from.entry result }
 {
     let mut places = [0; 31];
     let mut count = 0;
-    let mut more = first_mark(bytes, from)?;
-    let mut at = from + 1;
+    let (mut more, mut at) = mark(from, 31)?;
     while more {
-        let step = cut(bytes, at, 30 - count)?;
-        places[count] = step.cut;
+        (places[count], more, at) = cut(at, 30 - count)?;
         count += 1;
-        more = step.more;
-        at = step.end;
     }
     Ok((Cuts { places, count }, at))
 }
 
-// Reads the line of cuts.
-pub(crate) fn cut_line(bytes: &[u8], from: usize) -> Result<CutLine, usize>
-    requires { from ≤ length bytes.now }
-    ensures { ReadsCuts from (drop from bytes.now) result }
+// Reads the line of cuts: the row cuts and the column cuts.
+pub(crate) fn cut_line<'a>(from: Cursor<'a>) -> Result<(Cuts, Cuts, Cursor<'a>), usize>
+    ensures { ReadsCuts from.entry result }
 {
-    let first = literal(bytes, from, b"(cuts (down")?;
-    let (down, middle) = side_cuts(bytes, first)?;
-    let second = literal(bytes, middle, b" (across")?;
-    let (across, last) = side_cuts(bytes, second)?;
-    let end = literal(bytes, last, b")\n")?;
-    Ok(CutLine { down, across, end })
+    let (down, middle) = side_cuts(from.word(b"(cuts (down")?)?;
+    let (across, last) = side_cuts(middle.word(b" (across")?)?;
+    Ok((down, across, last.word(b")\n")?))
 }

@@ -7,7 +7,7 @@ use crate::cuts::Cuts;
 use crate::input::Input;
 use crate::line::cut_line;
 use marks::CodedMark;
-use texts::read_sheet;
+use texts::{Cursor, read_sheet};
 
 impl Cuts {
     // The cuts, in their order.
@@ -23,15 +23,16 @@ pub fn read_input<M: CodedMark>(bytes: &[u8]) -> Result<Input, usize>
     ensures { ReadsInput M.Spelled.named M.Spelled.spelled bytes.now result }
 {
     let head = read_sheet::<M>(bytes)?;
-    let cuts = cut_line(bytes, head.end)?;
-    if cuts.end < bytes.len() {
-        return Err(cuts.end);
+    let (down, across, rest) = cut_line(Cursor::new(bytes, head.end))?;
+    let end = rest.place();
+    if end < bytes.len() {
+        return Err(end);
     }
     Ok(Input {
         rows: head.rows,
         cols: head.cols,
         end: head.end,
-        down: cuts.down,
-        across: cuts.across,
+        down,
+        across,
     })
 }

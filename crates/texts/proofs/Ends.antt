@@ -6,6 +6,8 @@ use Rattle.grammar.proofs.Theory.{longest_lost, longest_found, lost_none, sofar_
 use Rattle.marks.specs.Refusals.{accepted, refused}
 use Rattle.sheets.specs.Grids.{Grid}
 use Rattle.texts.specs.Parts.{RowOf, body, HeadOf, head, WholeOf, whole}
+use Rattle.texts.specs.Cursors.{Behind, LostAt}
+use Rattle.texts.specs.declared.cursor.Cursor.{Cursor}
 use Rattle.texts.specs.Texts.{text_of, texts, AcceptedText, CheckTold, ReadsSheet}
 use Rattle.texts.proofs.Going.{Going, going_none, going_lost, step_lost, step_found}
 use Rattle.texts.proofs.Rows.{Spelling, some_body}
@@ -16,40 +18,42 @@ module _ {M : Type 0} (word : List ℕ) (f : M → List ℕ) (laws : Spelling f)
   abbrev Rest : HeadOf → Grammar (List (RowOf M) × (Unit {0}))
   Rest h = body f h.1.1.1.0 h.1.1.1.1
 
-  begun : Going (whole word f) 0 bytes (whole word f) 0
-  begun = going_none (whole word f) 0 bytes (omega arith)
-
   -- what is no text by its parts is no text of a sheet
   lost : (p : ℕ) → Lost (whole word f) 0 bytes p → Lost (texts word f) 0 bytes p
   lost p h = sofar_lost (sofar_turn (sofar_none (texts word f) 0 bytes) (sheets_by_parts word f laws)) p h
 
-  pub head_lost : (p : ℕ) → Lost (head word) 0 bytes p → Lost (texts word f) 0 bytes p
-  head_lost p h = lost p (step_lost (head word) Rest (code_head word) begun (λ z _. some_body f laws z.1.1.1.0 z.1.1.1.1) p h)
+  -- a reader that begins at the start of the bytes
+  module _ (c : Cursor) (place : c.at ≡ 0) (same : c.bytes.now ≡ bytes) where
+    from_start : (p : ℕ) → LostAt (whole word f) c p → Lost (texts word f) 0 bytes p
+    from_start p h = lost p (subst (λ bs. Lost (whole word f) 0 bs p) same (subst (λ k. Lost (whole word f) k (drop k c.bytes.now) p) place h))
 
-  module _ (rows cols e : ℕ) (h : Found (head word) 0 bytes (tt, (tt, (tt, (rows, cols)))) e) where
-    abbrev z : HeadOf
-    z = (tt, (tt, (tt, (rows, cols))))
+    begun : Going (whole word f) c (whole word f) c
+    begun = going_none (whole word f) c
 
-    pub head_going : Going (whole word f) 0 bytes (Rest z) e
-    head_going = step_found (head word) Rest (code_head word) begun z e h
+    pub head_lost : (p : ℕ) → LostAt (head word) c p → Lost (texts word f) 0 bytes p
+    head_lost p h = from_start p (step_lost (head word) Rest (code_head word) begun (λ z _. some_body f laws z.1.1.1.0 z.1.1.1.1) p h)
 
-    pub rows_lost : (p : ℕ) → Lost (Rest z) e (drop e bytes) p → Lost (texts word f) 0 bytes p
-    rows_lost p k = lost p (going_lost head_going p k)
+    module _ (rows cols : ℕ) (d : Cursor) (h : Behind (head word) c (tt, (tt, (tt, (rows, cols)))) d) where
+      abbrev z : HeadOf
+      z = (tt, (tt, (tt, (rows, cols))))
 
-    pub rows_found : (b : List (RowOf M) × (Unit {0})) (end : ℕ) → Found (Rest z) e (drop e bytes) b end → ReadsSheet word f bytes (Ok (record { rows = rows; cols = cols; end = end }))
-    rows_found b end k =
-        let all = both_found (head word) Rest bytes 0 e end z b h k in
-        let is = sheet_text word f (z, b) all.valid in (
-          sheet_of word f (z, b),
-          record {
-            valid = (sheet_sided word f (z, b) all.valid, sheet_readable word f (z, b) all.valid);
-            after = all.after;
-            split = all.split ∙ ap (λ w. w ++ all.after) (sym is);
-            place = omega (arith, all.place, ap length is);
-          },
-          refl,
-          refl,
-        )
+      pub rows_lost : (p : ℕ) → LostAt (Rest z) d p → Lost (texts word f) 0 bytes p
+      rows_lost p k = from_start p (going_lost (step_found (head word) Rest (code_head word) begun z d h) p k)
+
+      pub rows_found : (b : List (RowOf M) × (Unit {0})) (e : Cursor) (end : ℕ) → end ≡ e.at → Behind (Rest z) d b e → ReadsSheet word f bytes (Ok (record { rows = rows; cols = cols; end = end }))
+      rows_found b e end stop k =
+          let all = (both_found (head word) Rest c d e z b h k).found in
+          let is = sheet_text word f (z, b) all.valid in (
+            sheet_of word f (z, b),
+            record {
+              valid = (sheet_sided word f (z, b) all.valid, sheet_readable word f (z, b) all.valid);
+              after = all.after;
+              split = sym same ∙ ap (λ k. drop k c.bytes.now) (sym place) ∙ all.split ∙ ap (λ w. w ++ all.after) (sym is);
+              place = omega (arith, all.place, ap length is);
+            },
+            refl,
+            refl,
+          )
 
   -- what is shared with the parts is shared with the sheets
   longest_sheet : (p : ℕ) → LongestShared (whole word f) bytes p → LongestShared (texts word f) bytes p

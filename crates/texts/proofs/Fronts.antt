@@ -1,6 +1,11 @@
 -- The bytes before the first blank, line end or bracket. Assumes nothing.
-use Rattle.std.proofs.Common.{◌≡◌, ℕ, ◌+◌, ◌-◌, ◌<◌, ◌≤◌, Bool, true, false, cond, ◌||◌, eqb, List, [], ◌∷◌, ◌++◌, length, get_or, take, drop, Some, None, Option, sym, refl, ap, ◌∙◌, subst, inl, inr, ⊎_elim, append_assoc, append-nil, arith, length-drop}
-use Rattle.std.proofs.lemmas.List.{drop_more, drop_all, take_more, get_or-drop}
+use Rattle.std.proofs.Common.{◌≡◌, ℕ, ◌+◌, ◌<◌, ◌≤◌, Bool, true, false, cond, ◌||◌, eqb, ltb, position, unwrap_or, one-add, List, [], ◌∷◌, ◌++◌, length, get_or, take, drop, Some, None, Option, sym, refl, ap, ◌∙◌, subst, inl, inr, ⊎_elim, arith}
+use Rattle.std.proofs.lemmas.List.{drop_more, drop_all}
+use mathlib.Core.Bool.{not}
+use Rattle.std.specs.List.{position_or_len}
+use Rattle.std.proofs.lemmas.Bool.{ltb-false}
+use Rattle.std.proofs.lemmas.List.Sums.{prefix_len-le-length}
+use Rattle.std.proofs.lemmas.List.Folds.{length-prefix_len}
 use Rattle.std.proofs.lemmas.Bool.Decides.{eqb_tells}
 use Rattle.marks.specs.Spellings.{Separator}
 use Rattle.texts.specs.Tokens.{spacing, separates, numeric, front, Part, word, number, opening, closing, begun_by, part_of}
@@ -32,38 +37,27 @@ front_cons b bs e = ap (λ t. cond t [] (b ∷ front bs)) e
 pub front_none : (b : ℕ) (bs : List ℕ) → separates b ≡ true → front (b ∷ bs) ≡ []
 front_none b bs e = ap (λ t. cond t [] (b ∷ front bs)) e
 
--- from at to end stands no separator
-pub record Reached (bs : List ℕ) (at end : ℕ) : Type 0 where
-  pub after : at ≤ end
-  pub within : end ≤ length bs
-  pub is : front (drop at bs) ≡ take (end - at) (drop at bs) ++ front (drop end bs)
+-- the place of the first byte that passes, or the end
+pub found_place : (p : ℕ → Bool) (bs : List ℕ) → unwrap_or (position p bs) (length bs) ≡ position_or_len p bs
+found_place p bs = by (ltb (position_or_len p bs) (length bs)) refl
+  where
+    by : (t : Bool) → ltb (position_or_len p bs) (length bs) ≡ t → unwrap_or (cond t (Some (position_or_len p bs)) None) (length bs) ≡ position_or_len p bs
+    by true e = refl
+    by false e = omega (arith, ltb-false _ _ e, prefix_len-le-length (λ b. not (p b)) bs)
 
-pub reached_none : (bs : List ℕ) (at : ℕ) → at ≤ length bs → Reached bs at at
-reached_none bs at h =
-    let z : at - at ≡ 0 = omega arith in
-    record { after = omega arith; within = h; is = sym (ap (λ n. take n (drop at bs) ++ front (drop at bs)) z) }
+front_take : (bs : List ℕ) → take (position_or_len separates bs) bs ≡ front bs
+front_take [] = refl
+front_take (b ∷ bs) = by (separates b) (front_take bs)
+  where
+    by : (t : Bool) → take (position_or_len separates bs) bs ≡ front bs → take (cond (not t) (1 + position_or_len separates bs) 0) (b ∷ bs) ≡ cond t [] (b ∷ front bs)
+    by true e = refl
+    by false e = ap (λ n. take n (b ∷ bs)) (one-add (position_or_len separates bs)) ∙ ap (λ w. b ∷ w) e
 
-module _ (bs : List ℕ) (at end : ℕ) (h : Reached bs at end) where
-  pub reached_more : end < length bs → separates (get_or bs end 0) ≡ false → Reached bs at (end + 1)
-  reached_more lt e =
-      let n : ℕ = end - at in
-      let next : end + 1 - at ≡ n + 1 = omega (arith, h.after) in
-      let place : at + n ≡ end = omega (arith, h.after) in
-      let inside : n < length (drop at bs) = omega (arith, length-drop at bs, h.after) in
-      let byte : get_or (drop at bs) n 0 ≡ get_or bs end 0 = get_or-drop at bs n 0 ∙ ap (λ k. get_or bs k 0) place in
-      record {
-        after = omega (arith, h.after);
-        within = omega arith;
-        is = h.is ∙ ap (λ w. take n (drop at bs) ++ w) (ap front (drop_more bs end 0 lt) ∙ front_cons (get_or bs end 0) (drop (end + 1) bs) e)
-            ∙ sym (append_assoc (take n (drop at bs)) (get_or bs end 0 ∷ []) (front (drop (end + 1) bs)))
-            ∙ ap (λ w. w ++ front (drop (end + 1) bs)) (ap (λ b. take n (drop at bs) ++ (b ∷ [])) (sym byte) ∙ sym (take_more (drop at bs) n 0 inside) ∙ ap (λ k. take k (drop at bs)) (sym next));
-      }
+pub front_is : (bs : List ℕ) → take (unwrap_or (position separates bs) (length bs)) bs ≡ front bs
+front_is bs = ap (λ n. take n bs) (found_place separates bs) ∙ front_take bs
 
-  pub reached_stop : end < length bs → separates (get_or bs end 0) ≡ true → take (end - at) (drop at bs) ≡ front (drop at bs)
-  reached_stop lt e = sym (h.is ∙ ap (λ w. take (end - at) (drop at bs) ++ w) (ap front (drop_more bs end 0 lt) ∙ front_none (get_or bs end 0) (drop (end + 1) bs) e) ∙ append-nil _)
-
-  pub reached_end : length bs ≤ end → take (end - at) (drop at bs) ≡ front (drop at bs)
-  reached_end ge = sym (h.is ∙ ap (λ w. take (end - at) (drop at bs) ++ w) (ap front (drop_all end bs ge)) ∙ append-nil _)
+pub front_long : (bs : List ℕ) → length (front bs) ≤ length bs
+front_long bs = omega (arith, ap length (sym (front_take bs)), length-prefix_len (λ b. not (separates b)) bs, prefix_len-le-length (λ b. not (separates b)) bs)
 
 -- what follows the bytes before a separator is a separator, or nothing
 abbrev pub Cut : List ℕ → Type 0

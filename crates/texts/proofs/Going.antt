@@ -1,43 +1,42 @@
 -- A reader on its way through the bytes. Assumes nothing.
-use Rattle.std.proofs.Common.{◌≡◌, ℕ, suc, ◌≤◌, List, [], length, drop, Ok, Err, Result, subst}
-use Rattle.grammar.specs.Grammars.{Grammar, Found, Lost, Reads, Code, Sofar, After, seq, rep}
-use Rattle.grammar.proofs.Theory.{sofar_none, sofar_turn, sofar_lost, sofar_found, part_lost, part_found, after_rep_none, after_rep_more, drop_past, within_past}
+use Rattle.std.proofs.Common.{◌≡◌, ℕ, suc, [], drop, Ok, Err, Result, refl, sym, ap, ◌∙◌, subst}
+use Rattle.grammar.specs.Grammars.{Grammar, Code, Sofar, After, seq, rep}
+use Rattle.grammar.proofs.Theory.{sofar_none, sofar_turn, sofar_lost, sofar_found, part_lost, part_found, after_rep_none, after_rep_more, drop_past}
+use Rattle.texts.specs.Cursors.{Behind, LostAt, ReadsOn}
+use Rattle.texts.specs.declared.cursor.Cursor.{Cursor}
 
--- a reader of L that began at from has come to at, and has to read K
-pub record Going {A B : Type 0} (L : Grammar A) (from : ℕ) (bytes : List ℕ) (K : Grammar B) (at : ℕ) : Type 0 where
-  pub within : at ≤ length bytes
-  pub sofar : Sofar L from (drop from bytes) K at (drop at bytes)
+-- a reader of L that began at c₀ has come to c, and has to read K
+pub record Going {A B : Type 0} (L : Grammar A) (c₀ : Cursor) (K : Grammar B) (c : Cursor) : Type 0 where
+  pub same : c.bytes.now ≡ c₀.bytes.now
+  pub sofar : Sofar L c₀.at (drop c₀.at c₀.bytes.now) K c.at (drop c.at c.bytes.now)
 
-pub going_none : {A : Type 0} (L : Grammar A) (from : ℕ) (bytes : List ℕ) → from ≤ length bytes → Going L from bytes L from
-going_none L from bytes h = record { within = h; sofar = sofar_none L from (drop from bytes) }
+pub going_none : {A : Type 0} (L : Grammar A) (c : Cursor) → Going L c L c
+going_none L c = record { same = refl; sofar = sofar_none L c.at (drop c.at c.bytes.now) }
 
-module _ {A B : Type 0} {L : Grammar A} {K : Grammar B} {from at : ℕ} {bytes : List ℕ} (s : Going L from bytes K at) where
-  pub going_turn : {C : Type 0} {J : Grammar C} → After K [] J → Going L from bytes J at
-  going_turn k = record { within = s.within; sofar = sofar_turn s.sofar k }
+module _ {A B : Type 0} {L : Grammar A} {K : Grammar B} {c₀ c : Cursor} (s : Going L c₀ K c) where
+  pub going_turn : {C : Type 0} {J : Grammar C} → After K [] J → Going L c₀ J c
+  going_turn k = record { same = s.same; sofar = sofar_turn s.sofar k }
 
-  pub going_lost : (p : ℕ) → Lost K at (drop at bytes) p → Lost L from (drop from bytes) p
+  pub going_lost : (p : ℕ) → LostAt K c p → LostAt L c₀ p
   going_lost p h = sofar_lost s.sofar p h
 
-  pub going_found : (b : B) (e : ℕ) → Found K at (drop at bytes) b e → (a : A) × Found L from (drop from bytes) a e
-  going_found b e h = sofar_found s.sofar b e h
-
-  pub going_end : (r : Result ℕ ℕ) → Reads K at (drop at bytes) r → Reads L from (drop from bytes) r
-  going_end (Ok e) h = going_found h.0 e h.1
+  pub going_end : (r : Result Cursor ℕ) → ReadsOn K c r → ReadsOn L c₀ r
+  going_end (Ok d) h = let k = sofar_found s.sofar h.0 d.at h.1.found in (k.0, record { same = h.1.same ∙ s.same; found = k.1 })
   going_end (Err p) h = going_lost p h
 
-module _ {A B C : Type 0} {L : Grammar A} (K : Grammar B) (D : B → Grammar C) {from at : ℕ} {bytes : List ℕ} (code : Code K) (s : Going L from bytes (seq K D) at) where
-  pub step_lost : ((b : B) → K.valid b → (c : C) × (D b).valid c) → (p : ℕ) → Lost K at (drop at bytes) p → Lost L from (drop from bytes) p
+module _ {A B C : Type 0} {L : Grammar A} (K : Grammar B) (D : B → Grammar C) {c₀ c : Cursor} (code : Code K) (s : Going L c₀ (seq K D) c) where
+  pub step_lost : ((b : B) → K.valid b → (z : C) × (D b).valid z) → (p : ℕ) → LostAt K c p → LostAt L c₀ p
   step_lost some p h = part_lost K D code s.sofar some p h
 
-  pub step_found : (b : B) (e : ℕ) → Found K at (drop at bytes) b e → Going L from bytes (D b) e
-  step_found b e h = record {
-    within = within_past bytes (K.text b) h.after at e s.within h.split h.place;
-    sofar = subst (λ w. Sofar L from (drop from bytes) (D b) e w) (drop_past bytes (K.text b) h.after at e h.split h.place) (part_found K D code s.sofar b e h);
+  pub step_found : (b : B) (d : Cursor) → Behind K c b d → Going L c₀ (D b) d
+  step_found b d h = record {
+    same = h.same ∙ s.same;
+    sofar = subst (λ w. Sofar L c₀.at (drop c₀.at c₀.bytes.now) (D b) d.at w) (drop_past c.bytes.now (K.text b) h.found.after c.at d.at h.found.split h.found.place ∙ ap (drop d.at) (sym h.same)) (part_found K D code s.sofar b d.at h.found);
   }
 
-module _ {A B C : Type 0} {L : Grammar A} (K : Grammar B) (D : Grammar C) {from at : ℕ} {bytes : List ℕ} (n : ℕ) (s : Going L from bytes (seq (rep n K) (λ _. D)) at) where
-  pub turn_none : n ≡ 0 → Going L from bytes D at
-  turn_none e = going_turn (subst (λ m. Going L from bytes (seq (rep m K) (λ _. D)) at) e s) (after_rep_none K D)
+module _ {A B C : Type 0} {L : Grammar A} (K : Grammar B) (D : Grammar C) {c₀ c : Cursor} (n : ℕ) (s : Going L c₀ (seq (rep n K) (λ _. D)) c) where
+  pub turn_none : n ≡ 0 → Going L c₀ D c
+  turn_none e = going_turn (subst (λ m. Going L c₀ (seq (rep m K) (λ _. D)) c) e s) (after_rep_none K D)
 
-  pub turn_more : (m : ℕ) → n ≡ suc m → Going L from bytes (seq K (λ _. seq (rep m K) (λ _. D))) at
-  turn_more m e = going_turn (subst (λ m. Going L from bytes (seq (rep m K) (λ _. D)) at) e s) (after_rep_more K D m)
+  pub turn_more : (m : ℕ) → n ≡ suc m → Going L c₀ (seq K (λ _. seq (rep m K) (λ _. D))) c
+  turn_more m e = going_turn (subst (λ m. Going L c₀ (seq (rep m K) (λ _. D)) c) e s) (after_rep_more K D m)

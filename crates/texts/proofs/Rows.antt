@@ -1,9 +1,11 @@
 -- A row, mark by mark. Assumes nothing.
-use Rattle.std.proofs.Common.{◌≡◌, ℕ, ◌-◌, ◌<◌, ◌≤◌, List, [], ◌∷◌, ◌++◌, length, drop, codes, Result, refl, subst, inl, inr, arith}
-use Rattle.grammar.specs.Grammars.{Grammar, Found, Lost, Reads, Code, all_by, lit, ended, seq, rep}
+use Rattle.std.proofs.Common.{◌≡◌, ℕ, suc, ◌-◌, List, [], ◌∷◌, ◌++◌, codes, Result, refl, inl, inr}
+use Rattle.grammar.specs.Grammars.{Grammar, Code, all_by, lit, ended, seq, rep}
 use Rattle.grammar.proofs.Theory.{code_ended, code_lit, code_seq, code_rep, some_rep}
 use Rattle.marks.specs.Spellings.{Separator}
 use Rattle.texts.specs.Parts.{RowOf, row, body}
+use Rattle.texts.specs.Cursors.{Behind, LostAt, ReadsOn}
+use Rattle.texts.specs.declared.cursor.Cursor.{Cursor}
 use Rattle.texts.proofs.Going.{Going, going_none, going_end, step_lost, step_found, turn_none, turn_more}
 
 -- what is asked of the spellings
@@ -27,34 +29,28 @@ module _ {M : Type 0} (f : M → List ℕ) (laws : Spelling f) where
   some_still : (n : ℕ) → (z : List M × (M × (Unit {0}))) × (still f n).valid z
   some_still n = let h = some_rep (ended (all_by f) 32) laws.one tt n in ((h.0, (laws.one, tt)), (h.1, (tt, tt)))
 
-  module _ (cols from : ℕ) (bytes : List ℕ) where
-    pub row_begun : from ≤ length bytes → (u : Unit {0}) (at : ℕ) → Found (lit (codes "(row ")) from (drop from bytes) u at → Going (row f cols) from bytes (still f (cols - 1)) at
-    row_begun h u at k = step_found (lit (codes "(row ")) (λ _. still f (cols - 1)) (code_lit (codes "(row ")) (going_none (row f cols) from bytes h) u at k
+  module _ (cols : ℕ) (c : Cursor) where
+    pub row_begun : (u : Unit {0}) (d : Cursor) → Behind (lit (codes "(row ")) c u d → Going (row f cols) c (still f (cols - 1)) d
+    row_begun u d k = step_found (lit (codes "(row ")) (λ _. still f (cols - 1)) (code_lit (codes "(row ")) (going_none (row f cols) c) u d k
 
-    pub row_none : from ≤ length bytes → (p : ℕ) → Lost (lit (codes "(row ")) from (drop from bytes) p → Lost (row f cols) from (drop from bytes) p
-    row_none h p k = step_lost (lit (codes "(row ")) (λ _. still f (cols - 1)) (code_lit (codes "(row ")) (going_none (row f cols) from bytes h) (λ _ _. some_still (cols - 1)) p k
+    pub row_none : (p : ℕ) → LostAt (lit (codes "(row ")) c p → LostAt (row f cols) c p
+    row_none p k = step_lost (lit (codes "(row ")) (λ _. still f (cols - 1)) (code_lit (codes "(row ")) (going_none (row f cols) c) (λ _ _. some_still (cols - 1)) p k
 
-    module _ (at left : ℕ) (s : Going (row f cols) from bytes (still f (left - 1)) at) where
-      turned : 1 < left → Going (row f cols) from bytes (seq (ended (all_by f) 32) (λ _. still f (left - 2))) at
-      turned h = turn_more (ended (all_by f) 32) (lastly f) (left - 1) s (left - 2) (omega arith)
+    module _ (d : Cursor) (n : ℕ) (s : Going (row f cols) c (still f n) d) where
+      pub row_more : (m : ℕ) → n ≡ suc m → (x : M) (e : Cursor) → Behind (ended (all_by f) 32) d x e → Going (row f cols) c (still f m) e
+      row_more m h x e k = step_found (ended (all_by f) 32) (λ _. still f m) (code_mark 32 (inl (inl refl))) (turn_more (ended (all_by f) 32) (lastly f) n s m h) x e k
 
-      pub row_more : 1 < left → (m : M) (e : ℕ) → Found (ended (all_by f) 32) at (drop at bytes) m e → Going (row f cols) from bytes (still f (left - 1 - 1)) e
-      row_more h m e k = subst (λ n. Going (row f cols) from bytes (still f n) e) (omega arith) (step_found (ended (all_by f) 32) (λ _. still f (left - 2)) (code_mark 32 (inl (inl refl))) (turned h) m e k)
+      pub row_lost : (m : ℕ) → n ≡ suc m → (p : ℕ) → LostAt (ended (all_by f) 32) d p → LostAt (row f cols) c p
+      row_lost m h p k = step_lost (ended (all_by f) 32) (λ _. still f m) (code_mark 32 (inl (inl refl))) (turn_more (ended (all_by f) 32) (lastly f) n s m h) (λ _ _. some_still m) p k
 
-      pub row_lost : 1 < left → (p : ℕ) → Lost (ended (all_by f) 32) at (drop at bytes) p → Lost (row f cols) from (drop from bytes) p
-      row_lost h p k = step_lost (ended (all_by f) 32) (λ _. still f (left - 2)) (code_mark 32 (inl (inl refl))) (turned h) (λ _ _. some_still (left - 2)) p k
+      ending : n ≡ 0 → Going (row f cols) c (lastly f) d
+      ending h = turn_none (ended (all_by f) 32) (lastly f) n s h
 
-      ending : left ≤ 1 → Going (row f cols) from bytes (lastly f) at
-      ending h = turn_none (ended (all_by f) 32) (lastly f) (left - 1) s (omega arith)
-
-      pub last_lost : left ≤ 1 → (p : ℕ) → Lost (ended (all_by f) 41) at (drop at bytes) p → Lost (row f cols) from (drop from bytes) p
+      pub last_lost : n ≡ 0 → (p : ℕ) → LostAt (ended (all_by f) 41) d p → LostAt (row f cols) c p
       last_lost h p k = step_lost (ended (all_by f) 41) (λ _. lit (10 ∷ [])) (code_mark 41 (inr (inr refl))) (ending h) (λ _ _. (tt, tt)) p k
 
-      pub last_found : left ≤ 1 → (m : M) (e : ℕ) → Found (ended (all_by f) 41) at (drop at bytes) m e → Going (row f cols) from bytes (lit (10 ∷ [])) e
-      last_found h m e k = step_found (ended (all_by f) 41) (λ _. lit (10 ∷ [])) (code_mark 41 (inr (inr refl))) (ending h) m e k
-
-    pub row_end : (e : ℕ) → Going (row f cols) from bytes (lit (10 ∷ [])) e → (r : Result ℕ ℕ) → Reads (lit (10 ∷ [])) e (drop e bytes) r → Reads (row f cols) from (drop from bytes) r
-    row_end e s r h = going_end s r h
+      pub last_found : n ≡ 0 → (x : M) (e : Cursor) → Behind (ended (all_by f) 41) d x e → Going (row f cols) c (lit (10 ∷ [])) e
+      last_found h x e k = step_found (ended (all_by f) 41) (λ _. lit (10 ∷ [])) (code_mark 41 (inr (inr refl))) (ending h) x e k
 
   -- lines of rows
   pub code_row : (cols : ℕ) → Code (row f cols)
@@ -72,16 +68,12 @@ module _ {M : Type 0} (f : M → List ℕ) (laws : Spelling f) where
   pub some_body : (rows cols : ℕ) → (z : List (RowOf M) × (Unit {0})) × (body f rows cols).valid z
   some_body rows cols = let r = some_row cols in let h = some_rep (row f cols) r.0 r.1 rows in ((h.0, tt), (h.1, tt))
 
-  module _ (rows cols from : ℕ) (bytes : List ℕ) where
-    module _ (at left : ℕ) (s : Going (body f rows cols) from bytes (body f left cols) at) where
-      next_row : 0 < left → Going (body f rows cols) from bytes (seq (row f cols) (λ _. body f (left - 1) cols)) at
-      next_row h = turn_more (row f cols) (lit (41 ∷ 10 ∷ [])) left s (left - 1) (omega arith)
+  module _ (rows cols : ℕ) (c d : Cursor) (n : ℕ) (s : Going (body f rows cols) c (body f n cols) d) where
+    pub body_more : (m : ℕ) → n ≡ suc m → (z : RowOf M) (e : Cursor) → Behind (row f cols) d z e → Going (body f rows cols) c (body f m cols) e
+    body_more m h z e k = step_found (row f cols) (λ _. body f m cols) (code_row cols) (turn_more (row f cols) (lit (41 ∷ 10 ∷ [])) n s m h) z e k
 
-      pub body_more : 0 < left → (z : RowOf M) (e : ℕ) → Found (row f cols) at (drop at bytes) z e → Going (body f rows cols) from bytes (body f (left - 1) cols) e
-      body_more h z e k = step_found (row f cols) (λ _. body f (left - 1) cols) (code_row cols) (next_row h) z e k
+    pub body_lost : (m : ℕ) → n ≡ suc m → (p : ℕ) → LostAt (row f cols) d p → LostAt (body f rows cols) c p
+    body_lost m h p k = step_lost (row f cols) (λ _. body f m cols) (code_row cols) (turn_more (row f cols) (lit (41 ∷ 10 ∷ [])) n s m h) (λ _ _. some_body m cols) p k
 
-      pub body_lost : 0 < left → (p : ℕ) → Lost (row f cols) at (drop at bytes) p → Lost (body f rows cols) from (drop from bytes) p
-      body_lost h p k = step_lost (row f cols) (λ _. body f (left - 1) cols) (code_row cols) (next_row h) (λ _ _. some_body (left - 1) cols) p k
-
-      pub body_end : left ≡ 0 → (r : Result ℕ ℕ) → Reads (lit (41 ∷ 10 ∷ [])) at (drop at bytes) r → Reads (body f rows cols) from (drop from bytes) r
-      body_end h r k = going_end (turn_none (row f cols) (lit (41 ∷ 10 ∷ [])) left s h) r k
+    pub body_end : n ≡ 0 → (r : Result Cursor ℕ) → ReadsOn (lit (41 ∷ 10 ∷ [])) d r → ReadsOn (body f rows cols) c r
+    body_end h r k = going_end (turn_none (row f cols) (lit (41 ∷ 10 ∷ [])) n s h) r k

@@ -1,3 +1,4 @@
 pub mod Tokens
+pub mod Cursors
 pub mod Parts
 pub mod Texts

@@ -11,13 +11,9 @@ pub fn check_text<M: CodedMark>(bytes: &[u8]) -> Result<(usize, usize), Refusal>
     ensures told { CheckTold M.Spelled.named M.Spelled.spelled bytes.now (told result) }
     ensures unique { OneTextOneSheet M.Spelled.named M.Spelled.spelled }
 {
-    match read_sheet::<M>(bytes) {
-        Ok(head) => {
-            if head.end < bytes.len() {
-                return Err(Refusal::Text(head.end));
-            }
-            Ok((head.rows, head.cols))
-        }
-        Err(place) => Err(Refusal::Text(place)),
+    let head = read_sheet::<M>(bytes).map_err(Refusal::Text)?;
+    if head.end < bytes.len() {
+        return Err(Refusal::Text(head.end));
     }
+    Ok((head.rows, head.cols))
 }

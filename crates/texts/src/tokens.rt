@@ -1,5 +1,5 @@
 // The parts of a text.
-ghost use Rattle.std.specs.Prelude.{◌≡◌, ◌-◌, ◌<◌, ◌≤◌, length, take, drop};
+ghost use Rattle.std.specs.Prelude.{◌≡◌, drop, position};
 ghost use Rattle.texts.specs.Tokens.{spacing, separates, numeric, front, part_of, shown};
 
 // A word, a number or a bracket. Words and numbers are the bytes of the text that they stand in.
@@ -32,21 +32,18 @@ fn is_numeric(b: u8) -> bool
     b == b'-' || b >= b'0' && b <= b'9'
 }
 
-// Where the word or number that stands at `at` ends: at the next blank, line end or bracket, or with the text.
-fn end_of(bytes: &[u8], at: usize) -> usize
-    requires { at ≤ length bytes.now }
-    ensures after { at ≤ result }
-    ensures within { result ≤ length bytes.now }
-    ensures value { take (result - at) (drop at bytes.now) ≡ front (drop at bytes.now) }
+// Where the first blank, line end or bracket stands.
+fn separator(bytes: &[u8]) -> Option<usize>
+    ensures { result ≡ position separates bytes.now }
 {
-    let mut end = at;
-    while end < bytes.len() {
-        if is_separator(bytes[end]) {
-            return end;
-        }
-        end += 1;
-    }
-    end
+    bytes.iter().position(|b| is_separator(*b))
+}
+
+// The bytes before the first blank, line end or bracket.
+fn unbroken<'a>(bytes: &'a [u8]) -> &'a [u8]
+    ensures { result.now ≡ front bytes.now }
+{
+    &bytes[..separator(bytes).unwrap_or(bytes.len())]
 }
 
 // The part that stands at a place; none at a blank, at a line end, or past the text.
@@ -66,7 +63,7 @@ pub fn part_at<'a>(bytes: &'a [u8], at: usize) -> Option<Token<'a>>
     if first == b')' {
         return Some(Token::Close);
     }
-    let part = &bytes[at..end_of(bytes, at)];
+    let part = unbroken(&bytes[at..]);
     if is_numeric(first) {
         return Some(Token::Number(part));
     }

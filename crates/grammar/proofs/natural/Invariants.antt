@@ -1,9 +1,6 @@
-use Rattle.std.proofs.Common.{◌-◌, length}
+use Rattle.std.proofs.Common.{◌+◌, ◌≤◌, unwrap_or, IfSome}
 use Rattle.grammar.specs.Decimals.{Part}
 use Rattle.grammar.proofs.natural.Given as goal
 
-abbrev pub invariant-loop-end : goal.invariant-loop-end
-invariant-loop-end l = Part l.max l.at l.bytes l.end l.n
-
-abbrev pub decreases-loop-end : goal.decreases-loop-end
-decreases-loop-end l = length l.bytes - l.end
+abbrev pub invariant-loop-i : goal.invariant-loop-i
+invariant-loop-i l = Part l.max l.at l.bytes (l.at + l.i) (unwrap_or l.n 0) × IfSome l.n (λ n. 1 ≤ n)

@@ -118,14 +118,8 @@ fn scan_height(bytes: &[u8]) -> (usize, Option<Height>)
     }
     if first == b'-' {
         let (end, n) = natural(bytes, 1, 32767);
-        if n == 0 {
-            return (end, None);
-        }
-        return (end, Some(Height { dm: -(n as i16) }));
+        return (end, n.map(|n| Height { dm: -(n as i16) }));
     }
     let (end, n) = natural(bytes, 0, 32767);
-    if n == 0 {
-        return (end, None);
-    }
-    (end, Some(Height { dm: n as i16 }))
+    (end, n.map(|n| Height { dm: n as i16 }))
 }

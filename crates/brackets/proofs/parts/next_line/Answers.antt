@@ -1,12 +1,11 @@
-use Rattle.std.proofs.Common.{sym, ◌∙◌, arith}
-use Rattle.brackets.proofs.Steps.{line_stop, line_more, line_end}
+use Rattle.std.proofs.Common.{length, drop, unwrap_or, refl, ap, ◌+◌, ◌==◌, ◌∙◌}
+use Rattle.grammar.proofs.Words.{behind_is}
+use Rattle.texts.proofs.Fronts.{found_place}
+use Rattle.brackets.proofs.Steps.{line_place}
 use Rattle.brackets.proofs.parts.next_line.Goals as goal
 
-pub returns-then-bytes-at-eq10 : goal.returns-then-bytes-at-eq10
-returns-then-bytes-at-eq10 c = record { within = omega arith; value = line_stop _ _ c.loop-at-test.true c.if-bytes-at-eq10.true ∙ sym c.loop-at.invariant.1 }
-
-pub loop-at-preserved : goal.loop-at-preserved
-loop-at-preserved c = (omega arith, c.loop-at.invariant.1 ∙ line_more _ _ c.loop-at-test.true c.if-bytes-at-eq10.false)
-
 pub returns : goal.returns
-returns c = record { within = c.loop-at.invariant.0; value = line_end _ _ c.loop-at-test.false ∙ sym c.loop-at.invariant.1 }
+returns c =
+    let bs = c.args.text.now in
+    let end = c.unwrap_or-end.ensures ∙ ap (λ r. unwrap_or r (length bs)) c.line_end.ensures ∙ found_place (λ b. b == 10) bs in
+    ap (λ w. w.now) c.unwrap_or.ensures ∙ behind_is bs _ c.get.result _ refl c.get.ensures.lookup.0 ∙ ap (λ n. drop (n + 1) bs) end ∙ line_place bs

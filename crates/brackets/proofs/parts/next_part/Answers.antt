@@ -1,9 +1,6 @@
-use Rattle.std.proofs.Common.{arith}
-use Rattle.brackets.proofs.Steps.{part_more, part_end}
+use Rattle.std.proofs.Common.{length, drop, refl, ap, ◌+◌, ◌∙◌}
+use Rattle.grammar.proofs.Words.{behind_is}
 use Rattle.brackets.proofs.parts.next_part.Goals as goal
 
-pub returns-then-end-bytes : goal.returns-then-end-bytes
-returns-then-end-bytes c = record { within = omega arith; value = part_end c.args.bytes.now c.args.at c.written.result.now c.written.ensures c.if-end-bytes.true }
-
 pub returns : goal.returns
-returns c = record { within = omega arith; value = part_more c.args.bytes.now c.args.at c.written.result.now c.written.ensures }
+returns c = ap (λ w. w.now) c.unwrap_or.ensures ∙ behind_is c.args.text.now _ c.get.result _ refl c.get.ensures.lookup.0 ∙ ap (λ w. drop (length w + 1) c.args.text.now) c.written-end.ensures

@@ -1,36 +1,18 @@
-use Rattle.std.proofs.Common.{◌≡◌, ℕ, ◌+◌, ◌<◌, ◌≤◌, true, false, List, length, get_or, drop, refl, inl, inr, arith}
-use Rattle.grammar.specs.Decimals.{Natural}
-use Rattle.grammar.specs.Grammars.{Lost}
-use Rattle.texts.specs.Tokens.{front}
-use Rattle.texts.proofs.Scans.{number_lost, number_found}
-use Rattle.inputs.specs.Steps.{cut}
-use Rattle.inputs.proofs.Marks.{cut_lost, cut_found}
+use Rattle.std.proofs.Common.{inl, inr, refl, arith}
+use Rattle.std.proofs.lemmas.Result.{err_from_is_err_and}
+use Rattle.inputs.proofs.Marks.{cut_lost, cut_stop, cut_found}
 use Rattle.inputs.proofs.line.cut.Goals as goal
 
--- a number that no byte ends as it must
-lost : (n at : ℕ) (bytes w : List ℕ) (stop k : ℕ) → w ≡ front (drop at bytes) → Natural 2047 0 w stop k → (length w ≤ stop → at + stop < length bytes → get_or bytes (at + stop) 0 ≡ 41 → k ≡ 0) → (1 ≤ n → length w ≤ stop → at + stop < length bytes → get_or bytes (at + stop) 0 ≡ 32 → k ≡ 0) → Lost (cut n) at (drop at bytes) (at + stop)
-lost n at bytes w stop k is h close blank =
-    cut_lost n at (drop at bytes) (at + stop)
-    (number_lost 2047 (omega arith) (omega arith) 41 at bytes w stop k is h (inr (inr refl)) close)
-    (λ some. number_lost 2047 (omega arith) (omega arith) 32 at bytes w stop k is h (inl (inl refl)) (blank some))
+pub returns-in_err-cut : goal.returns-in_err-cut
+returns-in_err-cut c =
+    let p = err_from_is_err_and c.from_residual.result c.from_residual.ensures.1 in
+    let lost = c.in_err-cut.ensures in
+    rw (p.1, p.2) (cut_lost _ _ _ _ (lost (omega arith) 41 (inr (inr refl))) (λ some. lost (omega arith) 32 (inl (inl refl))))
 
-pub returns-then-len-word : goal.returns-then-len-word
-returns-then-len-word c = lost _ _ _ _ _ _ c.written-word.ensures c.natural-len.ensures (λ all inside first. absurd (omega arith)) (λ some all inside first. absurd (omega arith))
-
-pub returns-then-n-eq0 : goal.returns-then-n-eq0
-returns-then-n-eq0 c = lost _ _ _ _ _ _ c.written-word.ensures c.natural-len.ensures (λ all inside first. c.if-n-eq0.true) (λ some all inside first. c.if-n-eq0.true)
-
-pub returns-then-stop-bytes : goal.returns-then-stop-bytes
-returns-then-stop-bytes c = lost _ _ _ _ _ _ c.written-word.ensures c.natural-len.ensures (λ all inside first. absurd (omega arith)) (λ some all inside first. absurd (omega arith))
-
-pub returns-then-bytes-stop-eq41 : goal.returns-then-bytes-stop-eq41
-returns-then-bytes-stop-eq41 c = cut_found _ _ _ _ false _ (λ e. let z : ◌≡◌ {A = ℕ} 0 1 = cc in absurd (omega arith)) (number_found 2047 (omega arith) (omega arith) 41 _ _ _ _ _ c.written-word.ensures c.natural-len.ensures c.if-len-word.false c.if-stop-bytes.false c.if-bytes-stop-eq41.true c.if-n-eq0.false)
-
-pub returns-then-bytes-stop-ne32 : goal.returns-then-bytes-stop-ne32
-returns-then-bytes-stop-ne32 c = lost _ _ _ _ _ _ c.written-word.ensures c.natural-len.ensures (λ all inside first. absurd (c.if-bytes-stop-eq41.false first)) (λ some all inside first. absurd (c.if-bytes-stop-ne32.true first))
-
-pub returns-then-left-eq0 : goal.returns-then-left-eq0
-returns-then-left-eq0 c = lost _ _ _ _ _ _ c.written-word.ensures c.natural-len.ensures (λ all inside first. absurd (c.if-bytes-stop-eq41.false first)) (λ some all inside first. absurd (omega (arith, c.if-left-eq0.true)))
+pub returns-in_err-more : goal.returns-in_err-more
+returns-in_err-more c =
+    let p = err_from_is_err_and c.from_residual-in_err-more.result c.from_residual-in_err-more.ensures.1 in
+    rw (p.1, p.2) (cut_stop _ c.args.from _ c.in_ok-cut.stop c.in_ok-cut.ensures _ c.in_err-more.ensures)
 
 pub returns : goal.returns
-returns c = cut_found _ _ _ _ true _ (λ e. omega (arith, c.if-left-eq0.false)) (number_found 2047 (omega arith) (omega arith) 32 _ _ _ _ _ c.written-word.ensures c.natural-len.ensures c.if-len-word.false c.if-stop-bytes.false c.if-bytes-stop-ne32.false c.if-n-eq0.false)
+returns c = cut_found _ c.args.from _ c.in_ok-cut.stop c.in_ok-cut.ensures _ c.in_ok-more.next c.in_ok-more.ensures

@@ -1,4 +1,5 @@
-use Rattle.std.proofs.Common.{◌≡◌, ℕ, suc, ◌<◌, ◌≤◌, Bool, false, List, [], ◌∷◌, length, get_or, drop, vec_items, sym, refl, ap, ◌∙◌, arith}
+use Rattle.std.proofs.Common.{◌≡◌, ℕ, suc, ◌-◌, ◌<◌, ◌≤◌, Bool, false, List, [], ◌∷◌, length, get_or, take, drop, vec_items, sym, refl, ap, ◌∙◌, arith, length-drop}
+use Rattle.std.proofs.lemmas.List.{take_all}
 use Rattle.std.proofs.lemmas.Bool.Decides.{when_true, when_false}
 use Rattle.sheets.specs.Runs.{overruns}
 use Rattle.sheets.proofs.Checks.{fails, passes, run_fits}
@@ -7,8 +8,8 @@ use Rattle.brackets.proofs.Steps.{starts_long, starts_at}
 use Rattle.brackets.proofs.Along.{run_alive, run_dead, run_held}
 use Rattle.brackets.proofs.making.TextSheet.read.Goals as goal
 
--- the row is there, and begins where the sheet says
-begins : (rows cols row col n : ℕ) (bs starts : List ℕ) (b : Bool) → b ≡ overruns rows cols row col n → b ≡ false → starts ≡ row_starts rows bs → (row < length starts) × ((x : ℕ) → x ≡ get_or starts row x → (x ≤ length bs) × (drop x bs ≡ lines_on (suc row) bs))
+-- the row is there, and its line begins where the sheet says
+begins : (rows cols row col n : ℕ) (bs starts : List ℕ) (b : Bool) → b ≡ overruns rows cols row col n → b ≡ false → starts ≡ row_starts rows bs → (row < length starts) × ((x : ℕ) → x ≡ get_or starts row x → (x ≤ length bs) × (take (length bs - x) (drop x bs) ≡ lines_on (suc row) bs))
 begins rows cols row col n bs starts b e left s =
     let inside : row < rows = (run_fits rows cols row col n (sym e ∙ left)).0 in
     let long : length starts ≡ rows = ap length s ∙ starts_long rows bs in (
@@ -16,7 +17,7 @@ begins rows cols row col n bs starts b e left s =
       λ x is.
           let at = starts_at rows row x bs inside in
           let here : x ≡ get_or (row_starts rows bs) row x = is ∙ ap (λ l. get_or l row x) s in
-          (omega (arith, at.0), ap (λ k. drop k bs) here ∙ at.1),
+          (omega (arith, at.0), take_all (length bs - x) (drop x bs) (omega (arith, length-drop x bs)) ∙ ap (λ k. drop k bs) here ∙ at.1),
     )
 
 pub index-requires : goal.index-requires
@@ -24,27 +25,34 @@ index-requires g c =
     let s = c.args.self.now in
     omega (arith, s.starts.ok.0, (begins s.rows s.cols c.args.row c.args.col _ s.bytes.now (vec_items s.starts) _ c.leaves_sides.ensures c.if-leaves_sides.false s.begin).0)
 
-pub skip_parts-first-requires : goal.skip_parts-first-requires
-skip_parts-first-requires g c =
+pub slice_bounds-line-count : goal.slice_bounds-line-count
+slice_bounds-line-count g c =
     let s = c.args.self.now in
     ((begins s.rows s.cols c.args.row c.args.col _ s.bytes.now (vec_items s.starts) _ c.leaves_sides.ensures c.if-leaves_sides.false s.begin).1 c.index.result.now c.index.ensures).0
 
-pub returns-then-not-readable : goal.returns-then-not-readable
-returns-then-not-readable g c =
+pub slice_bounds-line-start : goal.slice_bounds-line-start
+slice_bounds-line-start g c =
+    let s = c.args.self.now in
+    ((begins s.rows s.cols c.args.row c.args.col _ s.bytes.now (vec_items s.starts) _ c.leaves_sides.ensures c.if-leaves_sides.false s.begin).1 c.index.result.now c.index.ensures).0
+
+pub returns-then-not-readable-clause-told : goal.returns-then-not-readable-clause-told
+returns-then-not-readable-clause-told g c =
     let s = c.args.self.now in
     let line = ((begins s.rows s.cols c.args.row c.args.col _ s.bytes.now (vec_items s.starts) _ c.leaves_sides.ensures c.if-leaves_sides.false s.begin).1 c.index.result.now c.index.ensures).1 in
     let d = when_false _ _ c.if-not-readable.true c.readable.ensures in
-    record {
-      told = passes _ _ (_ ∷ []) _ _ (sym c.leaves_sides.ensures ∙ c.if-leaves_sides.false) (fails _ _ [] _ (run_dead g.M.CodedMark.decoded g.M.Spelled.spelled s.rows s.cols s.bytes.now c.args.row c.args.col c.skip_parts-first.result c.skip_parts-from.result c.index.result.now line c.skip_parts-first.ensures.value c.skip_parts-from.ensures.value (length c.args.out.now) d.0 d.1 d.2));
-      leaves = refl;
-    }
+    passes _ _ (_ ∷ []) _ _ (sym c.leaves_sides.ensures ∙ c.if-leaves_sides.false)
+    (fails _ _ [] _ (run_dead g.M.CodedMark.decoded g.M.Spelled.spelled s.rows s.cols s.bytes.now c.args.row c.args.col _ c.skip_parts-first.result.now c.skip_parts-from.result.now line c.skip_parts-first.ensures c.skip_parts-from.ensures (length c.args.out.now) d.0 d.1 d.2))
 
-pub returns : goal.returns
-returns g c =
+pub returns-clause-told : goal.returns-clause-told
+returns-clause-told g c =
     let s = c.args.self.now in
     let line = ((begins s.rows s.cols c.args.row c.args.col _ s.bytes.now (vec_items s.starts) _ c.leaves_sides.ensures c.if-leaves_sides.false s.begin).1 c.index.result.now c.index.ensures).1 in
     let live = when_true _ _ c.if-not-readable.false c.readable.ensures in
-    record {
-      told = passes _ _ (_ ∷ []) _ _ (sym c.leaves_sides.ensures ∙ c.if-leaves_sides.false) (passes _ _ [] _ _ (run_alive g.M.CodedMark.decoded g.M.Spelled.spelled s.rows s.cols s.bytes.now c.args.row c.args.col c.skip_parts-first.result c.skip_parts-from.result c.index.result.now line c.skip_parts-first.ensures.value c.skip_parts-from.ensures.value (length c.args.out.now) live) refl);
-      leaves = (c.fill.auto.out, run_held g.M.CodedMark.decoded g.M.Spelled.spelled s.rows s.cols s.bytes.now c.args.row c.args.col c.skip_parts-first.result c.skip_parts-from.result c.index.result.now line c.skip_parts-first.ensures.value c.skip_parts-from.ensures.value c.fill.new.out (λ k lt. c.fill.ensures k (omega (arith, c.fill.auto.out))));
-    }
+    passes _ _ (_ ∷ []) _ _ (sym c.leaves_sides.ensures ∙ c.if-leaves_sides.false)
+    (passes _ _ [] _ _ (run_alive g.M.CodedMark.decoded g.M.Spelled.spelled s.rows s.cols s.bytes.now c.args.row c.args.col _ c.skip_parts-first.result.now c.skip_parts-from.result.now line c.skip_parts-first.ensures c.skip_parts-from.ensures (length c.args.out.now) live) refl)
+
+pub returns-clause-leaves : goal.returns-clause-leaves
+returns-clause-leaves g c =
+    let s = c.args.self.now in
+    let line = ((begins s.rows s.cols c.args.row c.args.col _ s.bytes.now (vec_items s.starts) _ c.leaves_sides.ensures c.if-leaves_sides.false s.begin).1 c.index.result.now c.index.ensures).1 in
+    (c.fill.auto.out, run_held g.M.CodedMark.decoded g.M.Spelled.spelled s.rows s.cols s.bytes.now c.args.row c.args.col _ c.skip_parts-first.result.now c.skip_parts-from.result.now line c.skip_parts-first.ensures c.skip_parts-from.ensures c.fill.new.out (λ k lt. c.fill.ensures k (omega (arith, c.fill.auto.out))))

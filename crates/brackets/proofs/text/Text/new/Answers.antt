@@ -11,7 +11,7 @@ spelling g = let m = g.met.M.CodedMark in record { one = g.M.Mark.lowest; distin
 coding : (g : given.Over) → Coding g.M.CodedMark.coded g.M.CodedMark.decoded g.M.Spelled.spelled
 coding g = let m = g.met.M.CodedMark in record { narrow = m.narrow; encodes = m.encodes; distinct = m.distinct }
 
-pub returns-in-Ok-row_starts : goal.returns-in-Ok-row_starts
-returns-in-Ok-row_starts g c =
-    let t = c.in-Ok.ensures.told in
-    text_back g.M.Spelled.named g.met.M.CodedMark.whole g.M.CodedMark.coded g.M.CodedMark.decoded g.M.Spelled.spelled (spelling g) (coding g) c.args.bytes.now t.0 t.1 c.in-Ok.sides.0 c.in-Ok.sides.1 (ap (λ s. s.0) (sym t.2)) (ap (λ s. s.1) (sym t.2))
+pub returns : goal.returns
+returns g c =
+    let t = c.in_ok-rows.ensures.told in
+    text_back g.M.Spelled.named g.met.M.CodedMark.whole g.M.CodedMark.coded g.M.CodedMark.decoded g.M.Spelled.spelled (spelling g) (coding g) c.args.bytes.now t.0 t.1 c.in_ok-rows.rows c.in_ok-rows.cols (ap (λ s. s.0) (sym t.2)) (ap (λ s. s.1) (sym t.2))

@@ -1,8 +1,8 @@
 use Rattle.std.proofs.Common.{ap, ◌∙◌}
 use Rattle.brackets.specs.Cells.{mark_of}
 use Rattle.brackets.proofs.Found.{Coding, mark_is}
-use Rattle.brackets.proofs.cells.mark_at.Given as given
-use Rattle.brackets.proofs.cells.mark_at.Goals as goal
+use Rattle.brackets.proofs.cells.first_mark.Given as given
+use Rattle.brackets.proofs.cells.first_mark.Goals as goal
 
 laws : (g : given.Over) → Coding g.M.CodedMark.coded g.M.CodedMark.decoded g.M.Spelled.spelled
 laws g = let m = g.met.M.CodedMark in record { narrow = m.narrow; encodes = m.encodes; distinct = m.distinct }
