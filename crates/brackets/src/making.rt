@@ -2,7 +2,6 @@
 ghost use Rattle.std.specs.Prelude.{◌≡◌, MatchResult};
 ghost use Rattle.marks.specs.Refusals.{told, answered};
 ghost use Rattle.marks.specs.declared.refusal.Refusal.TheVariants.{NoMemory};
-ghost use Rattle.sheets.specs.Runs.{overruns};
 ghost use Rattle.brackets.specs.Lines.{row_starts};
 ghost use Rattle.brackets.specs.Cells.{in_text, TextTold};
 
@@ -28,23 +27,15 @@ fn row_starts(heap: Global, bytes: &[u8], rows: usize) -> Result<Vec<usize>, Ref
     Ok(starts)
 }
 
-// Whether a run leaves a sheet of such sides.
-fn leaves_sides(rows: usize, cols: usize, row: usize, col: usize, len: usize) -> bool
-    ensures { result ≡ overruns rows cols row col len }
-{
-    row >= rows || col > cols || len > cols - col
-}
-
 impl<'a, M: CodedMark> Text<'a, M> {
     // The sheet whose text the bytes are; refused by 8 if they are no sheet's text.
     pub fn new(heap: Global, bytes: &'a [u8]) -> Result<Text<'a, M>, Refusal>
-        ensures { TextTold M.Spelled.named M.Spelled.spelled bytes.now (answered (λ s. in_text M.CodedMark.decoded M.Spelled.spelled s.rows s.cols s.bytes.now) (told result)) }
+        ensures { TextTold M.Spelled.named M.Spelled.spelled bytes.now (answered (λ s. in_text M.CodedMark.decoded M.Spelled.spelled s.sides.rows s.sides.cols s.bytes.now) (told result)) }
     {
         let (rows, cols) = check_text::<M>(bytes)?;
         let starts = row_starts(heap, bytes, rows)?;
         Ok(Text {
-            rows,
-            cols,
+            sides: Sides { rows, cols },
             bytes,
             starts,
             kind: PhantomData,
@@ -55,23 +46,18 @@ impl<'a, M: CodedMark> Text<'a, M> {
 impl<'a, M: CodedMark> Sheet for Text<'a, M> {
     type Mark = M;
 
-    ghost meaning = { λ s. in_text M.CodedMark.decoded M.Spelled.spelled s.rows s.cols s.bytes.now };
+    ghost meaning = { λ s. in_text M.CodedMark.decoded M.Spelled.spelled s.sides.rows s.sides.cols s.bytes.now };
 
-    ghost sided = { λ s. record { rows = s.rows_side; cols = s.cols_side } };
+    ghost sided = { λ s. record { rows = s.sides.rows_side; cols = s.sides.cols_side } };
 
     fn sides(&self) -> Sides {
-        Sides {
-            rows: self.rows,
-            cols: self.cols,
-        }
+        self.sides
     }
 
     // The whole run is looked at before any of it is handed out.
     fn read(&self, row: usize, col: usize, out: &mut [M]) -> Result<(), Refusal> {
         let len = out.len();
-        if leaves_sides(self.rows, self.cols, row, col, len) {
-            return Err(Refusal::Outside);
-        }
+        self.sides.start_of_run(row, col, len)?;
         let line = &self.bytes[self.starts[row]..];
         let first = skip_parts(line, 2);
         let from = skip_parts(first, col);

@@ -50,12 +50,11 @@ fn rows_length<M: CodedMark, S: Sheet<Mark = M>>(sheet: &S, run: &mut [M]) -> Re
 }
 
 // The length of the first line.
-fn head_length<M: CodedMark>(rows: usize, cols: usize) -> usize
-    requires rows { Side rows }
-    requires cols { Side cols }
-    ensures value { result ≡ length (head_line M.Spelled.named rows cols) }
+fn head_length<M: CodedMark>(sides: Sides) -> usize
+    ensures value { result ≡ length (head_line M.Spelled.named sides.rows sides.cols) }
     ensures small { result ≤ 30 }
 {
+    let Sides { rows, cols } = sides;
     10 + M::name().len() + digits(rows).as_bytes().len() + digits(cols).as_bytes().len()
 }
 
@@ -67,10 +66,10 @@ pub fn text_length<M: CodedMark, S: Sheet<Mark = M>>(
     ensures told { told result ≡ length_told M.Spelled.named M.Spelled.spelled (S.Sheet.meaning sheet.now) (length scratch.old) }
     ensures scratch { ScratchKept scratch.old scratch.new result }
 {
-    let Sides { rows, cols } = sheet.sides();
-    if scratch.len() < cols {
+    let sides = sheet.sides();
+    if scratch.len() < sides.cols {
         return Err(Refusal::ScratchShort);
     }
-    let lines = rows_length(sheet, &mut scratch[0..cols])?;
-    Ok(head_length::<M>(rows, cols) + lines + 2)
+    let lines = rows_length(sheet, &mut scratch[..sides.cols])?;
+    Ok(head_length::<M>(sides) + lines + 2)
 }

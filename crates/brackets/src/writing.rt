@@ -53,12 +53,11 @@ fn put_line<M: CodedMark>(out: &mut [u8], from: usize, marks: &[M]) -> usize
 }
 
 // Writes the first line at the start of a buffer.
-fn put_head<M: CodedMark>(out: &mut [u8], rows: usize, cols: usize) -> usize
-    requires rows { Side rows }
-    requires cols { Side cols }
-    requires room { length (head_line M.Spelled.named rows cols) ≤ length out.old }
-    ensures { Put out.old out.new 0 (head_line M.Spelled.named rows cols) result }
+fn put_head<M: CodedMark>(out: &mut [u8], sides: Sides) -> usize
+    requires { length (head_line M.Spelled.named sides.rows sides.cols) ≤ length out.old }
+    ensures { Put out.old out.new 0 (head_line M.Spelled.named sides.rows sides.cols) result }
 {
+    let Sides { rows, cols } = sides;
     let word = put(out, 0, b"(sheet ");
     let first = put_ended(out, word, M::name(), b" ");
     let second = put_ended(out, first, digits(rows).as_bytes(), b" ");
@@ -102,8 +101,8 @@ pub fn write_text<M: CodedMark, S: Sheet<Mark = M>>(
     if out.len() < len {
         return Err(Refusal::BufferShort);
     }
-    let Sides { rows, cols } = sheet.sides();
-    let first = put_head::<M>(out, rows, cols);
-    let last = put_rows(sheet, &mut scratch[0..cols], out, first);
+    let sides = sheet.sides();
+    let first = put_head::<M>(out, sides);
+    let last = put_rows(sheet, &mut scratch[..sides.cols], out, first);
     Ok(put(out, last, b")\n"))
 }

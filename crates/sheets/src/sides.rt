@@ -67,7 +67,7 @@ impl Sides {
     }
 
     // Where a run begins, in cells from the first.
-    pub(crate) fn start_of_run(self, row: usize, col: usize, len: usize) -> Result<usize, Refusal>
+    pub fn start_of_run(self, row: usize, col: usize, len: usize) -> Result<usize, Refusal>
         ensures { told result ≡ checked ((overruns self.rows self.cols row col len, 6) ∷ []) (row * self.cols + col) }
     {
         if row >= self.rows || col > self.cols || len > self.cols - col {

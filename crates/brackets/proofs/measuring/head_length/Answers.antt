@@ -8,8 +8,8 @@ overflow_add-result-3 g c =
     let r = ap length (c.as_bytes.ensures ∙ c.digits.ensures) in
     let k = ap length (c.as_bytes-2.ensures ∙ c.digits-2.ensures) in
     let brief = g.met.M.CodedMark.brief.1 in
-    let a = side_long c.args.rows c.requires.rows in
-    let b = side_long c.args.cols c.requires.cols in
+    let a = side_long c.args.sides.rows c.args.sides.rows_side in
+    let b = side_long c.args.sides.cols c.args.sides.cols_side in
     search rules
 
 pub returns : goal.returns
@@ -18,6 +18,6 @@ returns g c =
     let r = ap length (c.as_bytes.ensures ∙ c.digits.ensures) in
     let k = ap length (c.as_bytes-2.ensures ∙ c.digits-2.ensures) in
     let brief = g.met.M.CodedMark.brief.1 in
-    let a = side_long c.args.rows c.requires.rows in
-    let b = side_long c.args.cols c.requires.cols in
-    record { value = omega (arith, head_long g.M.Spelled.named c.args.rows c.args.cols); small = omega arith }
+    let a = side_long c.args.sides.rows c.args.sides.rows_side in
+    let b = side_long c.args.sides.cols c.args.sides.cols_side in
+    record { value = omega (arith, head_long g.M.Spelled.named c.args.sides.rows c.args.sides.cols); small = omega arith }

@@ -10,7 +10,7 @@ pub returns : goal.returns
 returns g c =
     let m = g.S.Sheet.meaning c.args.sheet.now in
     let word = g.M.Spelled.named in
-    let s = c.sides-rows.ensures in
+    let s = c.sides-sides.ensures in
     let p = passed _ _ [] _ _ c.in_ok-lines.ensures.told in
     let lines = answer _ _ p.1 in
     let head : c.head_length.result ≡ length (head_line word m.rows m.cols) = c.head_length.ensures.value ∙ (λ i. length (head_line word (s.rows i) (s.cols i))) in

@@ -1,7 +1,5 @@
-use Rattle.std.proofs.Common.{◌≡◌, ◌-◌, ◌≤◌, length, sym, ◌∙◌, subst, arith}
-use native.Mathlib.Nat.{sub-zero}
+use Rattle.std.proofs.Common.{◌≡◌, ◌≤◌, length, ◌∙◌, arith}
 use Rattle.std.proofs.lemmas.List.{length-take-le}
-use Rattle.sheets.specs.Grids.{Side}
 use Rattle.texts.specs.Texts.{head_line}
 use Rattle.brackets.proofs.Puts.{put_long, text_put}
 use Rattle.brackets.proofs.Rowwise.{measured, written_told}
@@ -10,26 +8,21 @@ use Rattle.brackets.proofs.writing.write_text.Goals as goal
 pub put_head-first-requires : goal.put_head-first-requires
 put_head-first-requires g c =
     let m = g.S.Sheet.meaning c.args.sheet.now in
-    let s = c.sides-rows.ensures in
-    let sided = g.S.Sheet.sided c.args.sheet.now in
+    let s = c.sides-sides.ensures in
     let t = measured g.M.Spelled.named g.M.Spelled.spelled m (length c.args.scratch.now) c.in_ok-len.len c.in_ok-len.ensures.told in
-    let head : length (head_line g.M.Spelled.named c.sides-rows.result.rows c.sides-rows.result.cols) ≡ length (head_line g.M.Spelled.named m.rows m.cols) = (λ i. length (head_line g.M.Spelled.named (s.rows i) (s.cols i))) in
-    record {
-      rows = subst Side (sym s.rows) sided.rows;
-      cols = subst Side (sym s.cols) sided.cols;
-      room = omega (arith, c.if-out-len.false, t.parts, head);
-    }
+    let head : length (head_line g.M.Spelled.named c.sides-sides.result.rows c.sides-sides.result.cols) ≡ length (head_line g.M.Spelled.named m.rows m.cols) = (λ i. length (head_line g.M.Spelled.named (s.rows i) (s.cols i))) in
+    omega (arith, c.if-out-len.false, t.parts, head)
 
 pub put_rows-last-requires : goal.put_rows-last-requires
 put_rows-last-requires g c =
     let m = g.S.Sheet.meaning c.args.sheet.now in
-    let s = c.sides-rows.ensures in
+    let s = c.sides-sides.ensures in
     let t = measured g.M.Spelled.named g.M.Spelled.spelled m (length c.args.scratch.now) c.in_ok-len.len c.in_ok-len.ensures.told in
-    let head : length (head_line g.M.Spelled.named c.sides-rows.result.rows c.sides-rows.result.cols) ≡ length (head_line g.M.Spelled.named m.rows m.cols) = (λ i. length (head_line g.M.Spelled.named (s.rows i) (s.cols i))) in
+    let head : length (head_line g.M.Spelled.named c.sides-sides.result.rows c.sides-sides.result.cols) ≡ length (head_line g.M.Spelled.named m.rows m.cols) = (λ i. length (head_line g.M.Spelled.named (s.rows i) (s.cols i))) in
     let p = c.put_head-first.ensures in
-    let wide : c.sides-rows.result.cols - 0 ≤ length c.text_length.new.scratch = omega (arith, s.cols, t.wide, c.text_length.auto.scratch) in
+    let wide : c.sides-sides.result.cols ≤ length c.text_length.new.scratch = omega (arith, s.cols, t.wide, c.text_length.auto.scratch) in
     record {
-      cols = length-take-le (c.sides-rows.result.cols - 0) c.text_length.new.scratch wide ∙ sub-zero c.sides-rows.result.cols ∙ s.cols;
+      cols = length-take-le c.sides-sides.result.cols c.text_length.new.scratch wide ∙ s.cols;
       live = t.live;
       room = omega (arith, c.if-out-len.false, t.parts, head, p.place, put_long _ _ _ _ _ p);
     }
@@ -37,9 +30,9 @@ put_rows-last-requires g c =
 pub put-requires : goal.put-requires
 put-requires g c =
     let m = g.S.Sheet.meaning c.args.sheet.now in
-    let s = c.sides-rows.ensures in
+    let s = c.sides-sides.ensures in
     let t = measured g.M.Spelled.named g.M.Spelled.spelled m (length c.args.scratch.now) c.in_ok-len.len c.in_ok-len.ensures.told in
-    let head : length (head_line g.M.Spelled.named c.sides-rows.result.rows c.sides-rows.result.cols) ≡ length (head_line g.M.Spelled.named m.rows m.cols) = (λ i. length (head_line g.M.Spelled.named (s.rows i) (s.cols i))) in
+    let head : length (head_line g.M.Spelled.named c.sides-sides.result.rows c.sides-sides.result.cols) ≡ length (head_line g.M.Spelled.named m.rows m.cols) = (λ i. length (head_line g.M.Spelled.named (s.rows i) (s.cols i))) in
     let p = c.put_head-first.ensures in
     let q = c.put_rows-last.ensures in
     omega (arith, c.if-out-len.false, t.parts, head, p.place, q.place, put_long _ _ _ _ _ p, put_long _ _ _ _ _ q)
@@ -47,9 +40,9 @@ put-requires g c =
 pub returns : goal.returns
 returns g c =
     let m = g.S.Sheet.meaning c.args.sheet.now in
-    let s = c.sides-rows.ensures in
+    let s = c.sides-sides.ensures in
     let t = measured g.M.Spelled.named g.M.Spelled.spelled m (length c.args.scratch.now) c.in_ok-len.len c.in_ok-len.ensures.told in
-    let w = text_put g.M.Spelled.named g.M.Spelled.spelled m c.sides-rows.result.rows c.sides-rows.result.cols s.rows s.cols _ _ _ _ _ _ _ c.put_head-first.ensures c.put_rows-last.ensures c.put.ensures in
+    let w = text_put g.M.Spelled.named g.M.Spelled.spelled m c.sides-sides.result.rows c.sides-sides.result.cols s.rows s.cols _ _ _ _ _ _ _ c.put_head-first.ensures c.put_rows-last.ensures c.put.ensures in
     record {
       told = written_told g.M.Spelled.named g.M.Spelled.spelled m (length c.args.scratch.now) c.in_ok-len.len t (length c.args.out.now) c.put.result c.if-out-len.false w.0;
       leaves = w.1;
