@@ -15,10 +15,7 @@ pub(crate) fn digits(side: usize) -> Spelling
     requires { Side side }
     ensures { spelt result ≡ decimal side }
 {
-    match Height::new(side as i16) {
-        Some(height) => height.spelling(),
-        None => unreachable(),
-    }
+    Height::new(side as i16).unwrap().spelling()
 }
 
 // The length of the line of some marks.
