@@ -18,18 +18,9 @@ use crate::linking::link_at;
 use crate::scratch::SurveyScratch;
 use flood::Entry;
 use marks::Refusal;
-use sheets::{Sheet, Sides};
+use sheets::Sheet;
 use tables::{MouthRecord, PassRecord, tables_short};
 use tiles::{Block, CutList};
-
-// Whether a sheet has other sides than a cut list.
-fn differs<S: Sheet>(cuts: &CutList, source: &S) -> bool
-    ensures { result ≡ other_sides (plan_of cuts.now) (S.Sheet.meaning source.now) }
-{
-    let Sides { rows, cols } = source.sides();
-    let (cut_rows, cut_cols) = cuts.sides();
-    !(rows == cut_rows && cols == cut_cols)
-}
 
 // Whether a slice lent to work in has fewer places than the cells or the mouths of a block need.
 fn is_short<M>(block: &Block, scratch: &SurveyScratch<M>) -> bool
@@ -101,7 +92,7 @@ pub fn survey_tile<S: Sheet>(
     if tables_short(cuts, mouths.len(), passes.len()) {
         return Err(Refusal::WrongLength);
     }
-    if differs(cuts, source) {
+    if source.sides() != cuts.sides() {
         return Err(Refusal::Outside);
     }
     if is_short(&block, scratch) {
