@@ -14,7 +14,7 @@ ghost use Rattle.surveying.specs.Surveyed.{SurveyLeaves, ScratchLeft, SameLoans}
 ghost use Rattle.surveying.specs.Turns.{cells_of};
 
 use crate::blocks::{flood_block, keep_marks};
-use crate::linking::link_at;
+use crate::flooded::FloodedBlock;
 use crate::scratch::SurveyScratch;
 use flood::Entry;
 use marks::Refusal;
@@ -60,16 +60,12 @@ fn chart<S: Sheet>(
     let first = cuts.first_mouth(tile)?;
     flood_block(source, &block, marks, levels, origins, heap)?;
     keep_marks(&block, marks, first, mouths);
-    let count = link_at(
-        &block,
+    let flooded = FloodedBlock {
+        block,
         levels,
         origins,
-        heap,
-        first,
-        labels,
-        passes,
-        first - tile,
-    );
+    };
+    let count = flooded.link_at(heap, first, labels, passes, first - tile);
     Ok(count)
 }
 
