@@ -16,7 +16,6 @@ ghost use Rattle.surveying.specs.Turns.{cells_of};
 use crate::blocks::{flood_block, keep_marks};
 use crate::flooded::FloodedBlock;
 use crate::scratch::SurveyScratch;
-use flood::Entry;
 use marks::Refusal;
 use sheets::Sheet;
 use tables::{MouthRecord, PassRecord, tables_short};
@@ -41,21 +40,24 @@ fn chart<S: Sheet>(
     tile: usize,
     mouths: &mut [MouthRecord<S::Mark>],
     passes: &mut [PassRecord<S::Mark>],
-    marks: &mut [S::Mark],
-    levels: &mut [Option<S::Mark>],
-    origins: &mut [Option<usize>],
-    heap: &mut [Entry<S::Mark>],
-    labels: &mut [usize],
+    scratch: SurveyScratch<S::Mark>,
 ) -> Result<usize, Refusal>
     requires tile { tile < tiles (plan_of cuts.now) }
     requires tables { tables_short (plan_of cuts.now) (length mouths.old) (length passes.old) ≡ false }
     requires sides { other_sides (plan_of cuts.now) (S.Sheet.meaning source.now) ≡ false }
-    requires marks { length marks.old ≡ tile_cells (plan_of cuts.now) tile }
-    requires room { short (tile_cells (plan_of cuts.now) tile) levels.old origins.old heap.old ≡ false }
-    requires labels { length labels.old ≡ tile_mouths (plan_of cuts.now) tile }
+    requires marks { length scratch.marks.now ≡ tile_cells (plan_of cuts.now) tile }
+    requires room { short (tile_cells (plan_of cuts.now) tile) scratch.levels.now scratch.origins.now scratch.heap.now ≡ false }
+    requires labels { length scratch.joins.now ≡ tile_mouths (plan_of cuts.now) tile }
     ensures told { told result ≡ checked ((dead_in (S.Sheet.meaning source.now) (tile_at (plan_of cuts.now) tile), 7) ∷ []) (tile_mouths (plan_of cuts.now) tile - 1) }
     ensures leaves { SurveyLeaves (kind_of S.Mark.Order S.Mark.Mark.lowest) (S.Sheet.meaning source.now) (plan_of cuts.now) tile (tables mouths.old passes.old) (tables mouths.new passes.new) result }
 {
+    let SurveyScratch {
+        marks,
+        levels,
+        origins,
+        heap,
+        joins,
+    } = scratch;
     let block = cuts.tile(tile)?;
     let first = cuts.first_mouth(tile)?;
     flood_block(source, &block, marks, levels, origins, heap)?;
@@ -65,7 +67,7 @@ fn chart<S: Sheet>(
         levels,
         origins,
     };
-    let count = flooded.link_at(heap, first, labels, passes, first - tile);
+    let count = flooded.link_at(heap, first, joins, passes, first - tile);
     Ok(count)
 }
 
@@ -102,16 +104,12 @@ pub fn survey_tile<S: Sheet>(
         heap,
         joins,
     } = scratch;
-    chart(
-        cuts,
-        source,
-        tile,
-        mouths,
-        passes,
-        &mut marks[0..cells],
+    let scratch = SurveyScratch {
+        marks: &mut marks[..cells],
         levels,
         origins,
         heap,
-        &mut joins[0..block.mouths()],
-    )
+        joins: &mut joins[..block.mouths()],
+    };
+    chart(cuts, source, tile, mouths, passes, scratch)
 }
