@@ -1,5 +1,5 @@
 -- What a survey tells, check by check. Assumes nothing.
-use Rattle.std.proofs.Common.{◌≡◌, ℕ, ◌-◌, ◌<◌, ◌≤◌, Bool, true, false, ◌||◌, ltb, leb, List, [], ◌∷◌, length, take, drop, Ok, Err, Result, sym, ap, ◌∙◌, arith, length-drop, length-take}
+use Rattle.std.proofs.Common.{◌≡◌, ℕ, ◌-◌, ◌<◌, ◌≤◌, Bool, true, false, ◌||◌, ltb, leb, List, [], ◌∷◌, length, Ok, Err, Result, sym, ap, ◌∙◌}
 use Rattle.std.proofs.lemmas.Bool.{leb-false, ltb-false, or_parts}
 use Rattle.marks.specs.declared.refusal.Refusal.{Refusal}
 use Rattle.marks.specs.Refusals.{Told, told, accepted, refused, checked, number, placed}
@@ -32,10 +32,6 @@ roomy n m s e =
     let b = or_parts (ltb (length s.marks.now) n || short n s.levels.now s.origins.now s.heap.now) (ltb (length s.joins.now) m) (sym e) in
     let d = or_parts (ltb (length s.marks.now) n) (short n s.levels.now s.origins.now s.heap.now) b.0 in
     record { marks = ltb-false (length s.marks.now) n d.0; cells = d.1; joins = ltb-false (length s.joins.now) m b.1 }
-
--- the front of a slice that is lent
-pub front_long : {X : Type 0} (xs : List X) (n m : ℕ) → n ≡ m → m ≤ length xs → length (take (n - 0) (drop 0 xs)) ≡ m
-front_long xs n m e h = simp (length-take, length-drop) (omega (arith, e, h))
 
 -- scratch after the work
 pub scratch_left : {M : Type 0} (s s' : SurveyScratch M) (b : Bool) (n : ℕ) (r : Result ℕ Refusal) → told r ≡ checked ((b, 7) ∷ []) n → ScratchLeft s s' r

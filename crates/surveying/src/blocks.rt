@@ -55,10 +55,10 @@ fn keep_mark<M: Mark>(
     requires room { (index < border (height (area_of block.now)) (width (area_of block.now))) × (first + border (height (area_of block.now)) (width (area_of block.now)) ≤ length mouths.old) }
     ensures { (i j : ℕ) → mouth_index (area_of block.now) i j ≡ Some index → mouths.new ≡ slice_set mouths.old (first + index) (mouth_with (slice_index_or marks.now (cell_number (area_of block.now) i j) M.Mark.lowest) None) }
 {
-    let Some(cell) = block.mouth_place(index) else {
+    let Some((row, col)) = block.mouth_place(index) else {
         return;
     };
-    let number = (cell.0 - block.top) * block.width() + (cell.1 - block.left);
+    let number = (row - block.top) * block.width() + (col - block.left);
     mouths[first + index] = MouthRecord {
         mark: marks[number],
         sill: None,

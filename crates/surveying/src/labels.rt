@@ -9,8 +9,8 @@ use tables::PassRecord;
 pub(crate) fn unjoin(labels: &mut [usize])
     ensures { Unjoined (length labels.old) labels.new }
 {
-    for k in 0..labels.len() {
-        labels[k] = k;
+    for (k, label) in labels.iter_mut().enumerate() {
+        *label = k;
     }
 }
 
@@ -18,9 +18,9 @@ pub(crate) fn unjoin(labels: &mut [usize])
 fn relabel(labels: &mut [usize], new: usize, old: usize)
     ensures { Relabelled labels.old labels.new new old }
 {
-    for k in 0..labels.len() {
-        if labels[k] == old {
-            labels[k] = new;
+    for label in labels.iter_mut() {
+        if *label == old {
+            *label = new;
         }
     }
 }

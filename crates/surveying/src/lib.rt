@@ -3,6 +3,7 @@
 
 mod around;
 mod blocks;
+mod flooded;
 mod labels;
 mod linking;
 mod scratch;

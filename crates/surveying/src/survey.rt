@@ -14,22 +14,12 @@ ghost use Rattle.surveying.specs.Surveyed.{SurveyLeaves, ScratchLeft, SameLoans}
 ghost use Rattle.surveying.specs.Turns.{cells_of};
 
 use crate::blocks::{flood_block, keep_marks};
-use crate::linking::link_at;
+use crate::flooded::FloodedBlock;
 use crate::scratch::SurveyScratch;
-use flood::Entry;
 use marks::Refusal;
-use sheets::{Sheet, Sides};
+use sheets::Sheet;
 use tables::{MouthRecord, PassRecord, tables_short};
 use tiles::{Block, CutList};
-
-// Whether a sheet has other sides than a cut list.
-fn differs<S: Sheet>(cuts: &CutList, source: &S) -> bool
-    ensures { result ≡ other_sides (plan_of cuts.now) (S.Sheet.meaning source.now) }
-{
-    let Sides { rows, cols } = source.sides();
-    let (cut_rows, cut_cols) = cuts.sides();
-    !(rows == cut_rows && cols == cut_cols)
-}
 
 // Whether a slice lent to work in has fewer places than the cells or the mouths of a block need.
 fn is_short<M>(block: &Block, scratch: &SurveyScratch<M>) -> bool
@@ -50,35 +40,34 @@ fn chart<S: Sheet>(
     tile: usize,
     mouths: &mut [MouthRecord<S::Mark>],
     passes: &mut [PassRecord<S::Mark>],
-    marks: &mut [S::Mark],
-    levels: &mut [Option<S::Mark>],
-    origins: &mut [Option<usize>],
-    heap: &mut [Entry<S::Mark>],
-    labels: &mut [usize],
+    scratch: SurveyScratch<S::Mark>,
 ) -> Result<usize, Refusal>
     requires tile { tile < tiles (plan_of cuts.now) }
     requires tables { tables_short (plan_of cuts.now) (length mouths.old) (length passes.old) ≡ false }
     requires sides { other_sides (plan_of cuts.now) (S.Sheet.meaning source.now) ≡ false }
-    requires marks { length marks.old ≡ tile_cells (plan_of cuts.now) tile }
-    requires room { short (tile_cells (plan_of cuts.now) tile) levels.old origins.old heap.old ≡ false }
-    requires labels { length labels.old ≡ tile_mouths (plan_of cuts.now) tile }
+    requires marks { length scratch.marks.now ≡ tile_cells (plan_of cuts.now) tile }
+    requires room { short (tile_cells (plan_of cuts.now) tile) scratch.levels.now scratch.origins.now scratch.heap.now ≡ false }
+    requires labels { length scratch.joins.now ≡ tile_mouths (plan_of cuts.now) tile }
     ensures told { told result ≡ checked ((dead_in (S.Sheet.meaning source.now) (tile_at (plan_of cuts.now) tile), 7) ∷ []) (tile_mouths (plan_of cuts.now) tile - 1) }
     ensures leaves { SurveyLeaves (kind_of S.Mark.Order S.Mark.Mark.lowest) (S.Sheet.meaning source.now) (plan_of cuts.now) tile (tables mouths.old passes.old) (tables mouths.new passes.new) result }
 {
+    let SurveyScratch {
+        marks,
+        levels,
+        origins,
+        heap,
+        joins,
+    } = scratch;
     let block = cuts.tile(tile)?;
     let first = cuts.first_mouth(tile)?;
     flood_block(source, &block, marks, levels, origins, heap)?;
     keep_marks(&block, marks, first, mouths);
-    let count = link_at(
-        &block,
+    let flooded = FloodedBlock {
+        block,
         levels,
         origins,
-        heap,
-        first,
-        labels,
-        passes,
-        first - tile,
-    );
+    };
+    let count = flooded.link_at(heap, first, joins, passes, first - tile);
     Ok(count)
 }
 
@@ -101,7 +90,7 @@ pub fn survey_tile<S: Sheet>(
     if tables_short(cuts, mouths.len(), passes.len()) {
         return Err(Refusal::WrongLength);
     }
-    if differs(cuts, source) {
+    if source.sides() != cuts.sides() {
         return Err(Refusal::Outside);
     }
     if is_short(&block, scratch) {
@@ -115,16 +104,12 @@ pub fn survey_tile<S: Sheet>(
         heap,
         joins,
     } = scratch;
-    chart(
-        cuts,
-        source,
-        tile,
-        mouths,
-        passes,
-        &mut marks[0..cells],
+    let scratch = SurveyScratch {
+        marks: &mut marks[..cells],
         levels,
         origins,
         heap,
-        &mut joins[0..block.mouths()],
-    )
+        joins: &mut joins[..block.mouths()],
+    };
+    chart(cuts, source, tile, mouths, passes, scratch)
 }

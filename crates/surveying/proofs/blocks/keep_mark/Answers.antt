@@ -10,22 +10,22 @@ use Rattle.surveying.proofs.blocks.keep_mark.Goals as goal
 pub overflow_mul-number : goal.overflow_mul-number
 overflow_mul-number g c =
     let b = c.args.block.now in
-    let n = number_in (area_of b) c.in-Some.cell.0 c.in-Some.cell.1 c.args.index c.in-Some.ensures in
-    let small = few_cells (c.in-Some.cell.0 - b.top) 0 c.width.result (omega (arith, n.3, b.low)) (omega (arith, c.width.ensures, b.near)) in
+    let n = number_in (area_of b) c.in-Some.row c.in-Some.col c.args.index c.in-Some.ensures in
+    let small = few_cells (c.in-Some.row - b.top) 0 c.width.result (omega (arith, n.3, b.low)) (omega (arith, c.width.ensures, b.near)) in
     omega (arith, small)
 
 pub offset_bounds-marks-number : goal.offset_bounds-marks-number
 offset_bounds-marks-number g c =
     let b = c.args.block.now in
-    let n = number_in (area_of b) c.in-Some.cell.0 c.in-Some.cell.1 c.args.index c.in-Some.ensures in
-    let same = ap (λ w. (c.in-Some.cell.0 - b.top) * w) c.width.ensures in
+    let n = number_in (area_of b) c.in-Some.row c.in-Some.col c.args.index c.in-Some.ensures in
+    let same = ap (λ w. (c.in-Some.row - b.top) * w) c.width.ensures in
     omega (arith, n.2, same, c.requires.marks)
 
 pub bounds-marks-number : goal.bounds-marks-number
 bounds-marks-number g c =
     let b = c.args.block.now in
-    let n = number_in (area_of b) c.in-Some.cell.0 c.in-Some.cell.1 c.args.index c.in-Some.ensures in
-    let same = ap (λ w. (c.in-Some.cell.0 - b.top) * w) c.width.ensures in
+    let n = number_in (area_of b) c.in-Some.row c.in-Some.col c.args.index c.in-Some.ensures in
+    let same = ap (λ w. (c.in-Some.row - b.top) * w) c.width.ensures in
     omega (arith, n.2, same, c.requires.marks)
 
 pub offset_bounds-mouths-first : goal.offset_bounds-mouths-first
@@ -36,8 +36,8 @@ pub returns : goal.returns
 returns g c = λ i j at.
     let b = c.args.block.now in
     let xs = c.args.marks.now in
-    let y = c.in-Some.cell.0 in
-    let z = c.in-Some.cell.1 in
+    let y = c.in-Some.row in
+    let z = c.in-Some.col in
     let n = number_in (area_of b) y z c.args.index c.in-Some.ensures in
     let same = ap (λ w. (y - b.top) * w + (z - b.left)) c.width.ensures in
     let one = index_apart (area_of b) y z i j c.args.index c.in-Some.ensures at in

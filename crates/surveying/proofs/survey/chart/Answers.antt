@@ -29,7 +29,7 @@ flood_block-requires g c =
     record {
       inside = tile_inside p m t (area_of b) (lawful_plan c.args.cuts.now) (sides_cut p m c.requires.sides) is b.tall b.wide;
       marks = c.requires.marks ∙ sym (ap cells_of is);
-      room = ap (λ z. short (cells_of z) c.args.levels.now c.args.origins.now c.args.heap.now) is ∙ c.requires.room;
+      room = ap (λ z. short (cells_of z) c.args.scratch.levels.now c.args.scratch.origins.now c.args.scratch.heap.now) is ∙ c.requires.room;
     }
 
 pub returns-in_err-flood_block : goal.returns-in_err-flood_block
@@ -63,6 +63,15 @@ overflow_sub-first g c =
     let is-first = tile_is p t c.in_ok-first.first (mouth_base p t) c.requires.tile c.in_ok-first.ensures.told in
     (tables_long p t c.in_ok-first.first (length c.args.mouths.now) (length c.args.passes.now) (lawful_plan c.args.cuts.now) c.requires.tile is-first c.requires.tables).low
 
+pub invariant_of-flooded : goal.invariant_of-flooded
+invariant_of-flooded g c =
+    let p = plan_of c.args.cuts.now in
+    let t = c.args.tile in
+    let b = c.in_ok-block.block in
+    let is = tile_is p t (area_of b) (tile_at p t) c.requires.tile c.in_ok-block.ensures.told in
+    let room = room_short (cells_of (area_of b)) c.args.scratch.levels.now c.args.scratch.origins.now c.args.scratch.heap.now (ap (λ z. short (cells_of z) c.args.scratch.levels.now c.args.scratch.origins.now c.args.scratch.heap.now) is ∙ c.requires.room) in
+    record { leveled = omega (arith, room.0, c.flood_block.auto.levels); origined = omega (arith, room.1, c.flood_block.auto.origins) }
+
 pub link_at-count-requires : goal.link_at-count-requires
 link_at-count-requires g c =
     let κ = kind_of g.S.Mark.Order g.S.Mark.Mark.lowest in
@@ -75,9 +84,9 @@ link_at-count-requires g c =
     let is-first = tile_is p t c.in_ok-first.first (mouth_base p t) c.requires.tile c.in_ok-first.ensures.told in
     let long = tables_long p t c.in_ok-first.first (length c.args.mouths.now) (length c.args.passes.now) law c.requires.tile is-first c.requires.tables in
     let many : border (height (area_of b)) (width (area_of b)) ≡ tile_mouths p t = ap (λ z. border (height z) (width z)) is in
-    let room = room_short (cells_of (area_of b)) c.args.levels.now c.args.origins.now c.args.heap.now (ap (λ z. short (cells_of z) c.args.levels.now c.args.origins.now c.args.heap.now) is ∙ c.requires.room) in
+    let room = room_short (cells_of (area_of b)) c.args.scratch.levels.now c.args.scratch.origins.now c.args.scratch.heap.now (ap (λ z. short (cells_of z) c.args.scratch.levels.now c.args.scratch.origins.now c.args.scratch.heap.now) is ∙ c.requires.room) in
     record {
-      slices = (omega (arith, room.0, c.flood_block.auto.levels), omega (arith, room.1, c.flood_block.auto.origins), omega (arith, room.2, c.flood_block.auto.heap));
+      slices = omega (arith, room.2, c.flood_block.auto.heap);
       labels = (c.requires.labels ∙ sym many, omega (arith, c.requires.labels, long.few), omega (arith, c.requires.labels, long.some));
       passes = omega (arith, c.requires.labels, long.passes);
       flooded = flooded_tile κ m p t (area_of b) c.flood_block.new.marks c.flood_block.new.levels c.flood_block.new.origins law (sides_cut p m c.requires.sides) c.requires.tile is c.in_ok-flood_block.ensures.leaves;
