@@ -21,12 +21,12 @@ FILES = [f for f in git("ls-tree", "-r", "--name-only", COMMIT).split("\n")
          if re.fullmatch(r"crates/\w+/src/.*\.rt", f)]
 TEXT = {f: git("show", f"{COMMIT}:{f}") for f in FILES}
 
-# What each point looks for.
+# What each point looks for, but for loops and twins, which stand below.
 PATTERNS = {
-    "1 an error, none or a default passed on by match or let-else": [
+    "1 an error, none or a default passed on by match, if or let-else": [
         r"Err\((\w+)\) => (?:return )?Err\((?:\w+::)*\w*\(?\1\)?\)",
         r"(?:Some|Ok)\((\w+)\) => (?:Ok\(|Some\()?\1\)?,\s*(?:None|Err\(_\)) => ",
-        r"let (?:Some|Ok)\([^;]*?\) = [^;]*? else \{\s*return (?:None|Err\([^;]*\)|count|false);\s*\};",
+        r"let (?:Some|Ok)\([^;]*?\) = [^;]*? else \{\s*return (?:None|Err\([^;]*\));\s*\};",
         r"if [^{;]* \{\s*Some\([^{}]*(?:\{[^{}]*\})?\)\s*\} else \{\s*None\s*\}|if [^{;]* \{\s*None\s*\} else \{\s*Some\([^{}]*(?:\{[^{}]*\})?\)\s*\}",
         r"None => \d,|None => (?:Err|i16::MIN|Height::void)",
     ],
@@ -34,19 +34,13 @@ PATTERNS = {
         r"\n(?: *//[^\n]*(?:and 0 if|or 0\b)[^\n]*\n)+ *(?:pub )?fn \w+",
         r"fn flood\(&self[^{;]*-> bool",
     ],
-    "3 a loop that counts an index by hand": [
-        r"\n *while [^\n]*(?:\.len\(\)|left|rest|more|cross\(|place|at\b)[^\n]*\{",
-        r"\n *for (\w+) in \d*0?\.\.[^\n]*\{(?=(?:[^}]|\}[^\n]*[^}\n])*?\[[^\]\n]*\b\1\b)",
-        r"\n *for (\w+) in 0\.\.[^\n]*\{\n(?:[^\n]*\n){0,4}?[^\n]*(?:\+ \1\b|\(\1\b|, \1\b)",
-        r"\n *for (?:_|k) in 0\.\.\w+ \{\n *\w+\.push\(",
-    ],
     "4 order, conversion or printing by hand": [
-        r"fn at_most\(&self, other: &\w+(?:<\w+>)?\) -> bool \{",
-        r"pub fn (?:letter|from_letter|number|place)\(",
+        r"fn at_most\(&self, other: &\w+(?:<\w+>)?\) -> bool \{(?!\s*self <= other)",
+        r"pub fn (?:letter|from_letter)\(|pub fn number\(self\) -> u8",
         r"fn (?:code|from_code)\([^)]*\) -> [^;{]*\{",
-        r"fn put_number\(|fn digits\(|fn minus\(|\"\(refused \{",
+        r"fn put_number\(|fn digits\(|fn minus\(|println!\(rt; \"\(refused",
     ],
-    "5 parameters that travel together": [
+    "5 parameters or fields that travel together": [
         r"\(\s*bytes: &(?:'a )?\[u8\],\s*(?:at|from): usize",
         r"\brows: usize,\s*(?:pub )?(?:pub\(crate\) )?cols: usize",
         r"levels: &mut \[Option<[^>]*>+\],\s*origins: &mut \[Option<usize>\],\s*(?:heap|slots|queue)",
@@ -79,6 +73,24 @@ for point, patterns in PATTERNS.items():
     print(f"{point}: {len(found)}")
     for (f, n), words in sorted(found.items()):
         print(f"    {f}:{n}: {words}")
+
+# Loops: a `while`, a place counted by hand, or a `for` over numbers that index a slice.
+found = {}
+for f in FILES:
+    lines = TEXT[f].split("\n")
+    for n, head in enumerate(lines):
+        loop = re.match(r"( *)(while (?!let)|for (\w+|\([^)]*\)) in )(.*)\{$", head)
+        if not loop:
+            continue
+        end = lines.index(loop.group(1) + "}", n)
+        body = "\n".join(lines[n + 1:end])
+        by_number = ".." in loop.group(4) and loop.group(3) and re.search(rf"\[[^\]]*\b{loop.group(3)}\b|\[start\.\.", body)
+        by_hand = re.search(r"\n? *(?:end|at|place|left|start|count|k|i) [+-]= 1;", "\n" + body)
+        if loop.group(2).startswith("while") or by_number or by_hand:
+            found[(f, n + 1)] = head.strip()
+print(f"3 a loop that counts an index by hand, or goes by it through a slice: {len(found)}")
+for (f, n), words in sorted(found.items()):
+    print(f"    {f}:{n}: {words}")
 
 # Twins: functions of one name in several places, but for the methods of impls, tests and main.
 names = collections.defaultdict(list)
