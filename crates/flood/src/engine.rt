@@ -93,7 +93,8 @@ fn spread<G: Ground>(
     }
 }
 
-// Floods a ground for whose nodes the slices have room.
+// Floods a ground for whose nodes the slices have room. They are lent one by one: of a struct that holds several, each call
+// would have to promise whose they are.
 fn run<G: Ground>(
     ground: &G,
     levels: &mut [Option<G::Mark>],

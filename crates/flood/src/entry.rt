@@ -14,7 +14,7 @@ pub struct Entry<M> {
     pub origin: usize,
 }
 
-// By the level, among equal levels by the node, and then by the origin.
+// By the level, among equal levels by the node, and then by the origin. No derive: a mark has an order by its laws, and no `Ord`.
 impl<M: Order> Order for Entry<M> {
     ghost leb = { before M.Order.leb };
 

@@ -13,7 +13,7 @@ pub struct Path {
 }
 
 // The first `len` of the slots hold the elements: the children of the place p are 2p + 1 and 2p + 2, and none is below
-// its parent.
+// its parent. No `Vec`: the memory is lent.
 #[derive(Drop)]
 pub struct Heap<'a, E: Order> {
     slots: &'a mut [E],

@@ -5,7 +5,7 @@ ghost use Rattle.std.specs.Prelude.{◌≤◌, length, drop, unwrap_or, IfSome};
 ghost use Rattle.grammar.specs.Grammars.{Reads, lit};
 ghost use Rattle.grammar.specs.Decimals.{Natural};
 
-// Reads `word` at `at`: where it ends, or the place of the first byte that differs.
+// Reads `word` at `at`, which may be any number and so is no cursor: where it ends, or the place of the first byte that differs.
 pub fn literal(bytes: &[u8], at: usize, word: &[u8]) -> Result<usize, usize>
     ensures { Reads (lit word.now) at (drop at bytes.now) result }
 {

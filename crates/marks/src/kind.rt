@@ -41,6 +41,7 @@ pub trait CodedMark: Mark + Spelled {
     // The mark of a code, if it has one.
     ghost decoded: { ℕ → Option Self };
 
+    // Beside `from_code` and no `From` and `TryFrom`: generic code knows both by the laws below.
     fn code(self) -> u16
         ensures { result ≡ coded self };
 

@@ -35,7 +35,7 @@ pub enum Refusal {
 }
 
 impl Refusal {
-    // The number that users know it by.
+    // The number that users know it by; no `u8::from`, since a place goes with it.
     pub fn number(self) -> u8
         ensures { result ≡ number self }
     {

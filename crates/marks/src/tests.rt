@@ -1,7 +1,7 @@
 use crate::{Class, CodedMark, Height, Mark, Order, Refusal, Spelled, UnknownLetter, higher};
 use std::test::Fail;
 
-// Decimetres as a height, which the test writes only where they are one.
+// Decimetres as a height, which the test writes only where they are one. No crate can use another's helpers of tests.
 fn height(dm: i16) -> Result<Height, Fail> {
     Ok(Height::new(dm).ok_or("no height")?)
 }

@@ -3,7 +3,7 @@ use flood::{Entry, Heap, flood};
 use marks::{Class, Height, Mark, Order, Refusal};
 use std::test::Fail;
 
-// A height, or a test that fails.
+// A height, or a test that fails. No crate can use another's helpers of tests.
 fn height(dm: i16) -> Result<Height, Fail> {
     Ok(Height::new(dm).ok_or("void")?)
 }

@@ -16,7 +16,7 @@ use marks::{Mark, Refusal};
 use tables::{MouthRecord, PassRecord};
 use tiles::CutList;
 
-// Floods the ground of mouths that two tables stand for.
+// Floods the ground of mouths that two tables stand for. Tables and scratch are lent one by one, as in a flood.
 fn flood_mouths<M: Mark>(
     cuts: &CutList,
     mouths: &[MouthRecord<M>],

@@ -23,7 +23,8 @@ pub struct Packed<'a, M> {
 }
 
 impl<'a, M: CodedMark> Packed<'a, M> {
-    // The sheet of so many rows and columns over bytes that hold its codes; any mark names its kind.
+    // The sheet of so many rows and columns over bytes that hold its codes; any mark names its kind. Any numbers may be asked for,
+    // so they are no `Sides`.
     pub fn new(
         rows: usize,
         cols: usize,

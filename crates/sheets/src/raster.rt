@@ -21,7 +21,7 @@ pub struct Raster<'a, M> {
 }
 
 impl<'a, M> Raster<'a, M> {
-    // The sheet of so many rows and columns over a slice that holds its marks.
+    // The sheet of so many rows and columns over a slice that holds its marks. Any numbers may be asked for, so they are no `Sides`.
     pub fn new(rows: usize, cols: usize, cells: &'a mut [M]) -> Result<Raster<'a, M>, Refusal>
         ensures told { answered (λ _. tt {0}) (told result) ≡ make_told rows cols (length cells.old) (rows * cols) (tt {0}) }
         ensures made { IfOk result (λ s. (s.rows ≡ rows) × (s.cols ≡ cols) × (s.cells.now ≡ cells.old) × (s.cells.ghost_name ≡ cells.entry.ghost_name)) }

@@ -22,7 +22,8 @@ pub trait Work<M: Mark> {
         ensures does { does self.old (T.Sheet.meaning sheet.old) (T.Sheet.meaning sheet.new) self.new };
 }
 
-// Does some work on a raster over a slice of marks, which holds what the raster stands for afterwards.
+// Does some work on a raster over a slice of marks, which holds what the raster stands for afterwards. Any sides may be asked for,
+// here and below.
 pub fn on_raster<M: Mark, W: Work<M>>(
     rows: usize,
     cols: usize,

@@ -7,7 +7,7 @@ use std::test::Fail;
 use tables::{MouthRecord, PassRecord};
 use tiles::CutList;
 
-// Decimetres as a height, which the tests write only where they are one.
+// Decimetres as a height, which the tests write only where they are one. No crate can use another's helpers of tests.
 fn height(dm: i16) -> Result<Height, Fail> {
     Ok(Height::new(dm).ok_or("no height")?)
 }

@@ -16,7 +16,8 @@ use tables::MouthRecord;
 use terrain::{flood_cells, read_block};
 use tiles::Block;
 
-// Reads a block of a sheet into a slice of its size, and floods it alone. Refused only where one of its cells is dead.
+// Reads a block of a sheet into a slice of its size, and floods it alone. Refused only where one of its cells is dead. The
+// slices are lent one by one, as to a flood.
 pub(crate) fn flood_block<S: Sheet>(
     source: &S,
     block: &Block,

@@ -18,7 +18,7 @@ pub struct CellGround<'a, M> {
 }
 
 impl<'a, M> CellGround<'a, M> {
-    // The ground of so many rows and columns over a slice that holds its marks.
+    // The ground of so many rows and columns over a slice that holds its marks. Any sides may be asked for.
     pub fn new(rows: usize, cols: usize, marks: &'a [M]) -> Result<CellGround<'a, M>, Refusal>
         ensures told { answered (λ _. tt {0}) (told result) ≡ make_told rows cols (length marks.now) (rows * cols) (tt {0}) }
         ensures made { IfOk result (λ s. (s.sides.rows ≡ rows) × (s.sides.cols ≡ cols) × (s.marks.now ≡ marks.now)) }

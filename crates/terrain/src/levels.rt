@@ -22,6 +22,7 @@ pub fn flood_cells<M: Mark>(
     ensures leaves { LevelsLeft (kind_of M.Order M.Mark.lowest) rows cols marks.now levels.old levels.new origins.old origins.new heap.old heap.new result }
     ensures origins { OriginsLeft (kind_of M.Order M.Mark.lowest) rows cols marks.now levels.new origins.new result }
 {
+    // Any sides may be asked for, and the slices are lent one by one.
     let ground = CellGround::new(rows, cols, marks)?;
     flood(&ground, levels, origins, heap)
 }

@@ -2,7 +2,8 @@
 ghost use Rattle.std.specs.Prelude.{◌≡◌, ◌+◌, ◌≤◌, true, false, length, take};
 ghost use Rattle.tiles.specs.Rules.{lawful, side_outside, singles};
 
-// A side and the places on it at which bands begin; beside them, how many bands are one cell long.
+// A side and the places on it at which bands begin; beside them, how many bands are one cell long. In an array, since a cut
+// list is `Copy` and takes no memory from a heap.
 #[derive(Clone, Copy)]
 pub(crate) struct Division {
     pub(crate) side: usize,

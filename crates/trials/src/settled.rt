@@ -37,7 +37,7 @@ const PASSES: [(usize, usize, i16); 18] = [
     (18, 17, 9),
 ];
 
-// The height of so many decimetres.
+// The height of so many decimetres. No crate can use another's helpers of tests.
 fn height(dm: i16) -> Height {
     Height::new(dm).unwrap_or(Height::void())
 }

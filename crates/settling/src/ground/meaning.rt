@@ -61,14 +61,11 @@ fn around(sides: Sides, row: usize, col: usize, k: usize) -> Option<Place>
 {
     let y = row + k / 3;
     let x = col + k % 3;
-    if 1 <= y && y <= sides.rows && 1 <= x && x <= sides.cols {
-        Some(Place {
-            row: y - 1,
-            col: x - 1,
-        })
-    } else {
-        None
-    }
+    let inside = 1 <= y && y <= sides.rows && 1 <= x && x <= sides.cols;
+    inside.then(|| Place {
+        row: y - 1,
+        col: x - 1,
+    })
 }
 
 // The link from a mouth over a seam to one of the nine cells around it.

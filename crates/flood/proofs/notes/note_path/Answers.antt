@@ -4,16 +4,6 @@ use Rattle.flood.specs.Places.{HalfPlaced}
 use Rattle.flood.proofs.Places.{kept_none, kept_both, single_long, path_noted, path_next, path_over}
 use Rattle.flood.proofs.notes.note_path.Goals as goal
 
-pub note-requires-in-loop-place : goal.note-requires-in-loop-place
-note-requires-in-loop-place g c = single_long c.loop-place.invariant.0.long (single_long c.note.ensures.kept.long c.requires.single)
-
-pub loop-place-init : goal.loop-place-init
-loop-place-init g c =
-    let q = contents c.args.heap.now in
-    let path = c.path-path.result in
-    let half = subst (λ p. HalfPlaced c.args.origins.now q p.foot p.head) (sym c.path-path.ensures) c.requires.half in
-    (kept_none c.note.new.origins q, path_noted c.args.origins.now c.note.new.origins q path.foot path.head half c.note.ensures.noted)
-
 pub loop-place-preserved : goal.loop-place-preserved
 loop-place-preserved g c =
     let q = contents c.args.heap.now in

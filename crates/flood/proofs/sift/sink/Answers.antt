@@ -14,12 +14,6 @@ loop-at-init g c =
     let same : set xs 0 x ≡ xs = ap (set xs 0) c.index-slots-0.is ∙ set-get_or xs 0 x in
     (refl, c.requires.0, subst (λ l. Sunk le tr xs n l 0) (sym same) (sink_begins le tr xs n), subst (λ l. Moves xs l n 0 0) (sym same) (fall_begins xs n))
 
-pub bounds-slots-at-2 : goal.bounds-slots-at-2
-bounds-slots-at-2 g c = omega (arith, c.loop-at.invariant.1)
-
-pub offset_bounds-slots-at-2 : goal.offset_bounds-slots-at-2
-offset_bounds-slots-at-2 g c = let h : c.loop-at.at < length c.loop-at.slots = omega (arith, c.loop-at.invariant.1) in search rules
-
 pub returns-then-at_most : goal.returns-then-at_most
 returns-then-at_most g c =
     let le = g.E.Order.leb in

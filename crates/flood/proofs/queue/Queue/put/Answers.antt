@@ -22,8 +22,3 @@ invariant_of-self g c =
       single = single_long c.follow.ensures.kept.long (single_joined c.args.x (contents h') s.single c.requires.fresh.0 c.requires.fresh.1 did.0);
       right = c.follow.ensures.placed;
     }
-
-pub returns-clause-leaves : goal.returns-clause-leaves
-returns-clause-leaves g c =
-    let did = put_accepted c.args.self.now.heap.now c.args.x c.put.result c.put.new.self c.requires.room c.put.ensures.told c.put.ensures.leaves in
-    record { entries = did.0; more = did.1; room = did.2; kept = c.follow.ensures.kept }

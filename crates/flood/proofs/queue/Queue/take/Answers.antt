@@ -7,9 +7,6 @@ use Rattle.flood.proofs.Accepted.{before_level}
 use Rattle.flood.proofs.Places.{half_placed, half_apart, single_left, single_long}
 use Rattle.flood.proofs.queue.Queue.take.Goals as goal
 
-pub returns-in_err-x-clause-leaves : goal.returns-in_err-x-clause-leaves
-returns-in_err-x-clause-leaves g c = rw c.from_residual.ensures (c.in_err-x.ensures.leaves.0, c.in_err-x.ensures.leaves.1, refl, refl)
-
 pub bounds-origins-x : goal.bounds-origins-x
 bounds-origins-x g c = (single_left c.in_ok-x.x (contents c.take.new.self) c.args.self.now.single c.in_ok-x.ensures.leaves.0).2
 
