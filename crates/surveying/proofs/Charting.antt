@@ -87,11 +87,6 @@ linked_part κ a levels origins C first start k n labels ps ys fits long S = rec
 }
 
 -- what a call about a tile that is there told
-pub tile_there : {X : Type 0} (p : Plan) (t n q : ℕ) (x : X) → t < tiles p → refused n q ≡ checked (tile_checks p t) x → ⊥
-tile_there p t n q x h e =
-    let is : refused n q ≡ accepted x = e ∙ ap (λ b. cond b (refused 3 0) (accepted x)) (lt-leb (tiles p) t h) in
-    let z : ◌≡◌ {A = ℕ} 0 1 = cc in omega arith
-
 pub tile_is : {X : Type 0} (p : Plan) (t : ℕ) (x y : X) → t < tiles p → accepted x ≡ checked (tile_checks p t) y → x ≡ y
 tile_is p t x y h e = let is : accepted x ≡ accepted y = e ∙ ap (λ b. cond b (refused 3 0) (accepted y)) (lt-leb (tiles p) t h) in cc
 

@@ -1,5 +1,5 @@
 -- An area read and flooded, and the marks of its mouths in a table. Assumes nothing.
-use Rattle.std.proofs.Common.{◌≡◌, ℕ, ◌+◌, ◌-◌, ◌*◌, ◌<◌, ◌≤◌, Bool, false, not, eqb, ltb, ◌≢◌, List, [], ◌∷◌, length, get_or, set, Some, None, Ok, Err, Option, Result, sym, refl, ap, ◌∙◌, ap₂, subst₂, inl, inr, ⊎_elim, mul-le-mul, arith}
+use Rattle.std.proofs.Common.{◌≡◌, ℕ, ◌+◌, ◌-◌, ◌*◌, ◌<◌, ◌≤◌, Bool, false, not, eqb, ltb, ◌≢◌, List, [], ◌∷◌, length, get_or, set, Some, None, Ok, Err, Option, Result, sym, refl, ap, ◌∙◌, ap₂, subst₂, inl, inr, ⊎_elim, arith}
 use Rattle.std.specs.List.{slice_get}
 use Rattle.std.proofs.lemmas.Nat.{mul-add-lt}
 use Rattle.std.proofs.lemmas.List.{length-set, get_or-set_same, get_or-set_other}
@@ -43,14 +43,7 @@ number_in a i j k e =
     let slim : j - a.left < width a = omega (arith, h) in
     (h.above, h.before, omega (arith, mul-add-lt (i - a.top) (width a) (j - a.left) (height a) tall slim), tall, slim)
 
--- small sides have a small product
-pub few_cells : (y h w : ℕ) → y ≤ 2048 → w ≤ 2048 → y * w ≤ 2048 * 2048
-few_cells y h w ly lw = mul-le-mul ly lw
-
 module _ {M : Type 0} (κ : Kind M) (a : Area) (marks : List M) (first : ℕ) (ms : List (MouthRecord M)) where
-  pub marks_none : MarksKept κ a marks first 0 ms ms
-  marks_none = record { new = λ k i j lt. absurd (omega (arith, lt)); rest = λ b out. refl; long = refl }
-
   pub marks_more : (n : ℕ) (ms₁ ms₂ : List (MouthRecord M)) → n < border (height a) (width a) → first + n < length ms₁ → MarksKept κ a marks first n ms ms₁ →
       ((i j : ℕ) → mouth_index a i j ≡ Some n → ms₂ ≡ set ms₁ (first + n) (mouth_with (get_or marks (cell_number a i j) κ.void) None)) → MarksKept κ a marks first (n + 1) ms ms₂
   marks_more n ms₁ ms₂ lt room K wrote =

@@ -1,10 +1,10 @@
 -- What a survey tells, check by check. Assumes nothing.
-use Rattle.std.proofs.Common.{◌≡◌, ℕ, ◌-◌, ◌<◌, ◌≤◌, Bool, true, false, ◌||◌, ltb, leb, List, [], ◌∷◌, length, Ok, Err, Result, sym, ap, ◌∙◌}
+use Rattle.std.proofs.Common.{◌≡◌, ℕ, ◌-◌, ◌<◌, ◌≤◌, Bool, false, ◌||◌, ltb, leb, List, [], ◌∷◌, length, Ok, Err, Result, sym, ap, ◌∙◌}
 use Rattle.std.proofs.lemmas.Bool.{leb-false, ltb-false, or_parts}
 use Rattle.marks.specs.declared.refusal.Refusal.{Refusal}
-use Rattle.marks.specs.Refusals.{Told, told, accepted, refused, checked, number, placed}
+use Rattle.marks.specs.Refusals.{Told, told, accepted, checked, number, placed}
 use Rattle.sheets.specs.Grids.{Grid}
-use Rattle.sheets.proofs.Checks.{fails, passes, passed, still_refused}
+use Rattle.sheets.proofs.Checks.{passes, passed}
 use Rattle.flood.specs.Calls.{short}
 use Rattle.terrain.proofs.Rows.{refused_by}
 use Rattle.tiles.specs.Plans.{Plan, Area, tiles, tile_at, height, width, tile_checks}
@@ -51,27 +51,15 @@ module _ {M : Type 0} (p : Plan) (g : Grid M) (t m q : ℕ) (s : SurveyScratch M
   first : List (Bool × ℕ)
   first = (tables_short p m q, 4) ∷ second
 
-  pub tells_tile : (x y : ℕ) → refused x y ≡ checked (tile_checks p t) (tile_at p t) → refused x y ≡ survey_told p g t m q s
-  unfolding last third second first
-  tells_tile x y e = still_refused (leb (tiles p) t) x y 3 first (tile_at p t) (tile_mouths p t - 1) e
-
   module _ (there : leb (tiles p) t ≡ false) where
     past_tile : (r : Told ℕ) → r ≡ checked first (tile_mouths p t - 1) → r ≡ survey_told p g t m q s
     unfolding last third second first
     past_tile r e = passes (leb (tiles p) t) 3 first (tile_mouths p t - 1) r there e
 
-    pub tells_tables : true ≡ tables_short p m q → refused 4 0 ≡ survey_told p g t m q s
-    unfolding first
-    tells_tables e = past_tile (refused 4 0) (fails (tables_short p m q) 4 second (tile_mouths p t - 1) (sym e))
-
     module _ (long : false ≡ tables_short p m q) where
       past_tables : (r : Told ℕ) → r ≡ checked second (tile_mouths p t - 1) → r ≡ survey_told p g t m q s
       unfolding first
       past_tables r e = past_tile r (passes (tables_short p m q) 4 second (tile_mouths p t - 1) r (sym long) e)
-
-      pub tells_sides : true ≡ other_sides p g → refused 6 0 ≡ survey_told p g t m q s
-      unfolding second
-      tells_sides e = past_tables (refused 6 0) (fails (other_sides p g) 6 third (tile_mouths p t - 1) (sym e))
 
       module _ (same : false ≡ other_sides p g) (a : Area) (is : a ≡ tile_at p t) where
         past_sides : (r : Told ℕ) → r ≡ checked third (tile_mouths p t - 1) → r ≡ survey_told p g t m q s
@@ -80,10 +68,6 @@ module _ {M : Type 0} (p : Plan) (g : Grid M) (t m q : ℕ) (s : SurveyScratch M
 
         at_tile : work_short (cells_of a) (border (height a) (width a)) s ≡ work_short (tile_cells p t) (tile_mouths p t) s
         at_tile = ap (λ z. work_short (cells_of z) (border (height z) (width z)) s) is
-
-        pub tells_short : true ≡ work_short (cells_of a) (border (height a) (width a)) s → refused 5 0 ≡ survey_told p g t m q s
-        unfolding third
-        tells_short e = past_sides (refused 5 0) (fails (work_short (tile_cells p t) (tile_mouths p t) s) 5 last (tile_mouths p t - 1) (sym (e ∙ at_tile)))
 
         pub tells_rest : false ≡ work_short (cells_of a) (border (height a) (width a)) s → (r : Told ℕ) → r ≡ checked ((dead_in g (tile_at p t), 7) ∷ []) (tile_mouths p t - 1) → r ≡ survey_told p g t m q s
         unfolding last third

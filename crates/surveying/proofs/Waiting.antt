@@ -46,10 +46,6 @@ module _ {M : Type 0} (κ : Kind M) (a : Area) (levels : List (Option M)) (origi
   }
 
 module _ {M : Type 0} (κ : Kind M) (O : OrderLaws κ.leb) (a : Area) (levels : List (Option M)) (origins : List (Option ℕ)) where
-  -- no cell waits
-  pub lined_none : Lined κ a levels origins 0 []
-  lined_none = record { stands = tt; before = tt; once = λ v. omega arith; others = λ C c d lt. absurd (omega (arith, lt)) }
-
   -- the next cell does not wait: all cells near it have its origin
   pub lined_past : (i : ℕ) (q : List (Entry M)) → (Flooded κ a levels origins → (d : ℕ) → Near a i d → get_or origins i None ≡ get_or origins d None) → Lined κ a levels origins i q → Lined κ a levels origins (i + 1) q
   lined_past i q same L = record {

@@ -1,18 +1,11 @@
-use Rattle.std.proofs.Common.{◌+◌, ◌-◌, ◌*◌, ◌<◌, length, get_or, set, None, ap, ◌∙◌, arith, rules}
+use Rattle.std.proofs.Common.{◌+◌, ◌-◌, ◌*◌, ◌<◌, length, get_or, set, None, ap, ◌∙◌, arith}
 use Rattle.std.proofs.lemmas.List.{get_or_read}
 use Rattle.tiles.specs.Plans.{area_of}
 use Rattle.tiles.proofs.Indices.{index_apart}
 use Rattle.tables.specs.Records.{mouth_with}
 use Rattle.surveying.specs.Blocks.{cell_number}
-use Rattle.surveying.proofs.Marking.{number_in, few_cells}
+use Rattle.surveying.proofs.Marking.{number_in}
 use Rattle.surveying.proofs.blocks.keep_mark.Goals as goal
-
-pub overflow_mul-number : goal.overflow_mul-number
-overflow_mul-number g c =
-    let b = c.args.block.now in
-    let n = number_in (area_of b) c.in-Some.row c.in-Some.col c.args.index c.in-Some.ensures in
-    let small = few_cells (c.in-Some.row - b.top) 0 c.width.result (omega (arith, n.3, b.low)) (omega (arith, c.width.ensures, b.near)) in
-    omega (arith, small)
 
 pub offset_bounds-marks-number : goal.offset_bounds-marks-number
 offset_bounds-marks-number g c =
@@ -27,10 +20,6 @@ bounds-marks-number g c =
     let n = number_in (area_of b) c.in-Some.row c.in-Some.col c.args.index c.in-Some.ensures in
     let same = ap (λ w. (c.in-Some.row - b.top) * w) c.width.ensures in
     omega (arith, n.2, same, c.requires.marks)
-
-pub offset_bounds-mouths-first : goal.offset_bounds-mouths-first
-offset_bounds-mouths-first g c =
-    let low : c.args.first + c.args.index < length c.args.mouths.now = omega (arith, c.requires.room) in search rules
 
 pub returns : goal.returns
 returns g c = λ i j at.

@@ -1,8 +1,7 @@
-use Rattle.std.proofs.Common.{◌≡◌, ◌-◌, [], length, sym, refl, ap, ◌∙◌, arith}
-use Rattle.std.proofs.lemmas.Result.{err_from_is_err_and}
+use Rattle.std.proofs.Common.{◌≡◌, ◌-◌, [], length, sym, ap, ◌∙◌, arith}
 use Rattle.marks.specs.Orders.{OrderLaws}
 use Rattle.marks.specs.Refusals.{accepted}
-use Rattle.sheets.proofs.Checks.{passes, passed, carried}
+use Rattle.sheets.proofs.Checks.{passes, passed}
 use Rattle.flood.specs.Calls.{short}
 use Rattle.terrain.specs.Terrains.{kind_of}
 use Rattle.tiles.specs.Plans.{plan_of, area_of, tile_at, height, width}
@@ -10,14 +9,8 @@ use Rattle.tiles.specs.Mouths.{border, mouth_base, tile_mouths}
 use Rattle.tiles.proofs.Tilings.{lawful_plan}
 use Rattle.surveying.specs.Blocks.{dead_in}
 use Rattle.surveying.specs.Turns.{cells_of}
-use Rattle.surveying.proofs.Charting.{tile_there, tile_is, sides_cut, tile_inside, flooded_tile, chart_done, tables_long, room_short}
+use Rattle.surveying.proofs.Charting.{tile_is, sides_cut, tile_inside, flooded_tile, chart_done, tables_long, room_short}
 use Rattle.surveying.proofs.survey.chart.Goals as goal
-
-pub returns-in_err-block : goal.returns-in_err-block
-returns-in_err-block g c = absurd (tile_there (plan_of c.args.cuts.now) c.args.tile _ _ _ c.requires.tile c.in_err-block.ensures.told)
-
-pub returns-in_err-first : goal.returns-in_err-first
-returns-in_err-first g c = absurd (tile_there (plan_of c.args.cuts.now) c.args.tile _ _ _ c.requires.tile c.in_err-first.ensures.told)
 
 pub flood_block-requires : goal.flood_block-requires
 flood_block-requires g c =
@@ -31,19 +24,6 @@ flood_block-requires g c =
       marks = c.requires.marks ∙ sym (ap cells_of is);
       room = ap (λ z. short (cells_of z) c.args.scratch.levels.now c.args.scratch.origins.now c.args.scratch.heap.now) is ∙ c.requires.room;
     }
-
-pub returns-in_err-flood_block : goal.returns-in_err-flood_block
-returns-in_err-flood_block g c =
-    let p = plan_of c.args.cuts.now in
-    let t = c.args.tile in
-    let m = g.S.Sheet.meaning c.args.source.now in
-    let b = c.in_ok-block.block in
-    let is = tile_is p t (area_of b) (tile_at p t) c.requires.tile c.in_ok-block.ensures.told in
-    let e = err_from_is_err_and c.from_residual-in_err-flood_block.result c.from_residual-in_err-flood_block.ensures.1 in
-    rw (e.1, e.2) (record {
-      told = carried (dead_in m (area_of b)) (dead_in m (tile_at p t)) _ _ 7 [] tt (tile_mouths p t - 1) (λ yes'. sym (ap (dead_in m) is) ∙ yes') c.in_err-flood_block.ensures.told;
-      leaves = refl;
-    })
 
 pub keep_marks-requires : goal.keep_marks-requires
 keep_marks-requires g c =

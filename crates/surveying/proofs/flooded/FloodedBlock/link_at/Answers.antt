@@ -10,16 +10,6 @@ pub offset_bounds-passes-start : goal.offset_bounds-passes-start
 offset_bounds-passes-start g c =
     let low : c.args.start ≤ length c.args.passes.now = omega (arith, c.requires.passes) in search (rules, scaled_fits≤)
 
-pub slice_bounds-link_mouths-end : goal.slice_bounds-link_mouths-end
-slice_bounds-link_mouths-end g c =
-    let low : c.args.start + (length c.args.labels.now - 1) ≤ length c.args.passes.now = c.requires.passes in search rules
-
-pub link_mouths-requires : goal.link_mouths-requires
-link_mouths-requires g c =
-    let n = length c.args.labels.now in
-    let part = part_length c.args.passes.now c.args.start (n - 1) c.requires.passes in
-    record { slices = c.requires.slices; labels = (c.requires.labels.0, c.requires.labels.1); passes = omega (arith, part, c.requires.labels.2, c.requires.labels.0); flooded = c.requires.flooded }
-
 pub returns : goal.returns
 returns g c = λ C.
     let r = c.args in

@@ -4,9 +4,6 @@ use Rattle.tiles.specs.Plans.{area_of}
 use Rattle.surveying.specs.Turns.{GoesOn}
 use Rattle.surveying.proofs.flooded.FloodedBlock.look_along.Goals as goal
 
-pub loop-cell-init : goal.loop-cell-init
-loop-cell-init g c = λ C q T. T
-
 pub look-count-requires : goal.look-count-requires
 look-count-requires g c =
     let turn = c.requires.turn in
