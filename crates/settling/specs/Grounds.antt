@@ -1,5 +1,5 @@
--- Looking for a link of a mouth by its place, and keeping levels as sills. Assumes nothing.
-use Rattle.std.specs.Prelude.{◌≡◌, ℕ, ◌+◌, ◌<◌, List, length, drop, Some, None, Ok, Err, Option, Result, slice_index_or}
+-- Which mouth stands where, and keeping levels as sills. Assumes nothing.
+use Rattle.std.specs.Prelude.{◌≡◌, ℕ, ◌<◌, List, drop, Some, None, Option, slice_index_or}
 use Rattle.std.specs.List.{slice_get}
 use Rattle.tiles.specs.Plans.{Plan, tile_of}
 use Rattle.tiles.specs.Mouths.{mouth_number}
@@ -11,11 +11,6 @@ use Rattle.tables.specs.Records.{mouth_with}
 pub record Stands (p : Plan) (a : ℕ) (m : Mouth) : Type 0 where
   pub number : mouth_number p m.row m.col ≡ Some a
   pub tile : m.tile ≡ tile_of p m.row m.col
-
--- what is found at a place of a list: what stands there, or how far past its end the place is
-abbrev pub FoundAt : {X : Type 0} → List X → ℕ → Result X ℕ → Type 0
-FoundAt xs place (Ok x) = slice_get xs place ≡ Some x
-FoundAt xs place (Err left) = length xs + left ≡ place
 
 -- the first n records have the levels as their sills, and the others are as they were
 pub record Kept {M : Type 0} (ms : List (MouthRecord M)) (ls : List (Option M)) (n : ℕ) (ms' : List (MouthRecord M)) : Type 0 where
