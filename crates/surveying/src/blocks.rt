@@ -1,5 +1,5 @@
 // A tile read and flooded, and the marks of its mouths kept.
-ghost use Rattle.std.specs.Prelude.{◌≡◌, ℕ, ◌+◌, ◌<◌, ◌≤◌, false, [], ◌∷◌, length, Some, None, slice_index_or, slice_set};
+ghost use Rattle.std.specs.Prelude.{◌≡◌, ℕ, ◌+◌, ◌<◌, ◌≤◌, false, [], ◌∷◌, length, Some, None, slice_index_or};
 ghost use Rattle.marks.specs.Refusals.{told, checked};
 ghost use Rattle.flood.specs.Calls.{short};
 ghost use Rattle.terrain.specs.Terrains.{kind_of};
