@@ -1,5 +1,5 @@
 // A tile read and flooded, and the marks of its mouths kept.
-ghost use Rattle.std.specs.Prelude.{◌≡◌, ℕ, ◌+◌, ◌<◌, ◌≤◌, false, [], ◌∷◌, length, Some, None, slice_index_or, slice_set};
+ghost use Rattle.std.specs.Prelude.{◌≡◌, ℕ, ◌+◌, ◌<◌, ◌≤◌, false, [], ◌∷◌, length, Some, None, slice_index_or};
 ghost use Rattle.marks.specs.Refusals.{told, checked};
 ghost use Rattle.flood.specs.Calls.{short};
 ghost use Rattle.terrain.specs.Terrains.{kind_of};
@@ -44,26 +44,18 @@ pub(crate) fn flood_block<S: Sheet>(
     flood_cells(extent.height, extent.width, marks, levels, origins, heap)
 }
 
-// Keeps the mark of a block's mouth in a table in which the block's mouths stand from `first` on.
-fn keep_mark<M: Mark>(
-    block: &Block,
-    marks: &[M],
-    first: usize,
-    index: usize,
-    mouths: &mut [MouthRecord<M>],
-)
+// The record of a block's mouth: its mark, and no sill yet.
+fn mouth_record<M: Mark>(block: &Block, marks: &[M], index: usize) -> MouthRecord<M>
     requires marks { length marks.now ≡ cells_of (area_of block.now) }
-    requires room { (index < border (height (area_of block.now)) (width (area_of block.now))) × (first + border (height (area_of block.now)) (width (area_of block.now)) ≤ length mouths.old) }
-    ensures { (i j : ℕ) → mouth_index (area_of block.now) i j ≡ Some index → mouths.new ≡ slice_set mouths.old (first + index) (mouth_with (slice_index_or marks.now (cell_number (area_of block.now) i j) M.Mark.lowest) None) }
+    requires index { index < border (height (area_of block.now)) (width (area_of block.now)) }
+    ensures { (i j : ℕ) → mouth_index (area_of block.now) i j ≡ Some index → result ≡ mouth_with (slice_index_or marks.now (cell_number (area_of block.now) i j) M.Mark.lowest) None }
 {
-    let Some((row, col)) = block.mouth_place(index) else {
-        return;
-    };
+    let (row, col) = block.mouth_place(index).unwrap();
     let number = (row - block.top) * block.width() + (col - block.left);
-    mouths[first + index] = MouthRecord {
+    MouthRecord {
         mark: marks[number],
         sill: None,
-    };
+    }
 }
 
 // Keeps the marks of all mouths of a block, in a table in which they stand from `first` on.
@@ -77,7 +69,8 @@ pub(crate) fn keep_marks<M: Mark>(
     requires room { first + border (height (area_of block.now)) (width (area_of block.now)) ≤ length mouths.old }
     ensures { MarksKept (kind_of M.Order M.Mark.lowest) (area_of block.now) marks.now first (border (height (area_of block.now)) (width (area_of block.now))) mouths.old mouths.new }
 {
-    for index in 0..block.mouths() {
-        keep_mark(block, marks, first, index, mouths);
+    let end = first + block.mouths();
+    for (index, mouth) in mouths[first..end].iter_mut().enumerate() {
+        *mouth = mouth_record(block, marks, index);
     }
 }
