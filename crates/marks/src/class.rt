@@ -1,5 +1,5 @@
 // Care classes.
-ghost use Rattle.std.specs.Prelude.{◌≡◌};
+ghost use Rattle.std.specs.Prelude.{◌≡◌, ◌++◌, Some, codes, encode_utf8};
 ghost use Rattle.marks.specs.Classes.{below, letter_of, Lettered};
 ghost use Rattle.marks.specs.declared.class.Class.TheVariants.{Void};
 ghost use Rattle.std.proofs.Common.{rules};
@@ -65,6 +65,8 @@ impl TryFrom<char> for Class {
 }
 
 impl fmt::Display for UnknownLetter {
+    ghost output = { λ e. Some (codes "no class is spelled " ++ encode_utf8 e.0) };
+
     fn fmt<W: fmt::Write>(&self, f: &mut fmt::Formatter<W>) -> fmt::Result {
         write!(f, "no class is spelled {}", self.0)
     }

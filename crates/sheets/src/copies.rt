@@ -2,7 +2,7 @@
 ghost use Rattle.std.specs.Prelude.{◌≡◌, ℕ, ◌+◌, ◌^◌, ◌<◌, ◌≤◌, false, ◌||◌, [], ◌∷◌, length, nat_lt};
 ghost use Rattle.marks.specs.Refusals.{told, checked, accepted};
 ghost use Rattle.sheets.specs.Runs.{broken, Holds, outside, Written};
-ghost use Rattle.sheets.specs.Copies.{misplaced, broken_rows, copy_told, Copied, CopyLeaves, ScratchLeft};
+ghost use Rattle.sheets.specs.Copies.{exceeds, misplaced, broken_rows, copy_told, Copied, CopyLeaves, ScratchLeft};
 
 use crate::sheet::{Sheet, WritableSheet};
 use marks::Refusal;
@@ -58,6 +58,16 @@ pub fn copy_rectangle<S: Sheet, T: WritableSheet<Mark = S::Mark>>(
     let run = &mut scratch[..extent.width];
     check_rows(source, from, extent.height, run)?;
     copy_rows(source, from, target, to, extent.height, run)
+}
+
+// Whether the rectangle at a place leaves so many rows and columns, which may be any numbers.
+pub fn leaves(place: Place, extent: Extent, rows: usize, cols: usize) -> bool
+    ensures { result ≡ exceeds rows cols place extent }
+{
+    place.row > rows
+        || extent.height > rows - place.row
+        || place.col > cols
+        || extent.width > cols - place.col
 }
 
 // Reads every row of a rectangle that is as wide as the run, and says whether one is broken.

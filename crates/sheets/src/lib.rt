@@ -10,7 +10,7 @@ mod sides;
 mod tests;
 mod works;
 
-pub use copies::{Extent, Place, copy_rectangle};
+pub use copies::{Extent, Place, copy_rectangle, leaves};
 pub use packed::Packed;
 pub use raster::Raster;
 pub use sheet::{Sheet, WritableSheet};

@@ -6,7 +6,7 @@ ghost use Rattle.sheets.specs.Layouts.{bad_sides, make_told};
 ghost use Rattle.sheets.specs.Runs.{overruns};
 ghost use Rattle.sheets.specs.Copies.{exceeds};
 
-use crate::copies::{Extent, Place};
+use crate::copies::{Extent, Place, leaves};
 use marks::Refusal;
 
 // How many rows and columns a sheet has: each from 1 to 2,048.
@@ -53,10 +53,7 @@ impl Sides {
     pub fn exceeded_by(self, place: Place, extent: Extent) -> bool
         ensures { result ≡ exceeds self.rows self.cols place extent }
     {
-        place.row > self.rows
-            || extent.height > self.rows - place.row
-            || place.col > self.cols
-            || extent.width > self.cols - place.col
+        leaves(place, extent, self.rows, self.cols)
     }
 
     // Whether a cell lies on the edge.
