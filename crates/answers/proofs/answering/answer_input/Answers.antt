@@ -1,13 +1,11 @@
-use Rattle.std.proofs.Common.{◌-◌, take, inl, ⊎_elim, rules}
-use Rattle.std.proofs.lemmas.Result.{err_from_is_err_and}
-use Rattle.marks.specs.Refusals.{refused}
+use Rattle.std.proofs.Common.{◌-◌, take}
 use Rattle.texts.proofs.Rows.{Spelling}
 use Rattle.texts.proofs.Whole.{one_sheet}
 use Rattle.brackets.specs.Cells.{in_text}
 use Rattle.inputs.specs.Cuts.{cuts_of}
 use Rattle.answers.specs.Printed.{coded_of}
 use Rattle.answers.proofs.Outcome.{readable_live}
-use Rattle.answers.proofs.OfKind.{end_within, is_text, read_again, all_passed, printed_answer}
+use Rattle.answers.proofs.OfKind.{is_text, read_again, all_passed, printed_answer}
 use Rattle.answers.proofs.answering.answer_input.Given as given
 use Rattle.answers.proofs.answering.answer_input.Goals as goal
 
@@ -17,7 +15,7 @@ laws g = let m = g.met.M.CodedMark in record { one = g.M.Mark.lowest; distinct =
 pub print_sheet-requires : goal.print_sheet-requires
 print_sheet-requires g c =
     let s = c.in_ok-source.source in
-    readable_live (in_text g.M.CodedMark.decoded g.M.Spelled.spelled s.rows s.cols s.bytes.now) c.in_ok-source.ensures.readable
+    readable_live (in_text g.M.CodedMark.decoded g.M.Spelled.spelled s.sides.rows s.sides.cols s.bytes.now) c.in_ok-source.ensures.readable
 
 pub returns : goal.returns
 returns g c =
@@ -26,7 +24,7 @@ returns g c =
     let i = c.args.input in
     let bs = c.args.bytes.now in
     let s = c.in_ok-source.source in
-    let h = in_text g.M.CodedMark.decoded f s.rows s.cols s.bytes.now in
+    let h = in_text g.M.CodedMark.decoded f s.sides.rows s.sides.cols s.bytes.now in
     let down = cuts_of i.down in
     let across = cuts_of i.across in
     let t = c.in_ok-source.ensures in
