@@ -20,10 +20,8 @@ impl<'a> Cursor<'a> {
     {
         let word = self.written();
         let stop = self.at + M::shared_beginning(word);
-        match M::from_spelling(word) {
-            Some(_) => Cursor::new(self.bytes, stop).word(&[end]),
-            None => Err(stop),
-        }
+        M::from_spelling(word).ok_or(stop)?;
+        Cursor::new(self.bytes, stop).word(&[end])
     }
 
     // Reads a side and the byte that ends it.
