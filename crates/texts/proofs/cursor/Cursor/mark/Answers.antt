@@ -1,20 +1,12 @@
-use Rattle.std.proofs.Common.{◌≡◌, ℕ, ◌≤◌, ◌+◌, Ok, Err, Some, None, Option, length, take, drop, sym, refl, ap, subst, ◌∙◌, arith, length-drop}
-use Rattle.std.specs.Option.{ok_or}
+use Rattle.std.proofs.Common.{◌≡◌, ◌≤◌, ◌+◌, length, take, drop, sym, ap, subst, ◌∙◌, arith, length-drop}
 use Rattle.std.proofs.lemmas.Result.{err_from_is_err_and}
 use Rattle.std.proofs.lemmas.Option.{MatchOption-at_none, MatchOption-at_some}
 use Rattle.grammar.specs.Grammars.{all_by, ended}
 use Rattle.texts.specs.Cursors.{LostAt}
 use Rattle.texts.proofs.Fronts.{front_long}
+use Rattle.texts.proofs.Options.{was_none, was_some}
 use Rattle.texts.proofs.Scans.{mark_lost, mark_reads}
 use Rattle.texts.proofs.cursor.Cursor.mark.Goals as goal
-
-was_none : {A : Type 0} (r : Option A) (e p : ℕ) → ok_or r e ≡ Err p → (r ≡ None) × (e ≡ p)
-was_none None e p is = (refl, (cc))
-was_none (Some a) e p is = let z : ◌≡◌ {A = ℕ} 0 1 = cc in absurd (omega arith)
-
-was_some : {A : Type 0} (r : Option A) (e : ℕ) (a : A) → ok_or r e ≡ Ok a → r ≡ Some a
-was_some None e a is = let z : ◌≡◌ {A = ℕ} 0 1 = cc in absurd (omega arith)
-was_some (Some b) e a is = let same : b ≡ a = cc in ap Some same
 
 pub returns-in_err-ok_or : goal.returns-in_err-ok_or
 returns-in_err-ok_or g c =
