@@ -1,4 +1,4 @@
-use Rattle.std.proofs.Common.{◌-◌, take}
+use Rattle.std.proofs.Common.{◌-◌, take, subst, ◌≤◌}
 use Rattle.texts.proofs.Rows.{Spelling}
 use Rattle.texts.proofs.Whole.{one_sheet}
 use Rattle.brackets.specs.Cells.{in_text}
@@ -31,5 +31,5 @@ returns g c =
     let same = one_sheet word f (laws g) c.requires.0 h (take (i.end - 0) bs) (is_text word f bs c.requires.0 down across c.requires.1 i.end c.requires.4) t in
     printed_answer (coded_of g.M.Order g.M.Mark.lowest g.M.Spelled) bs h down across
     (read_again word f bs c.requires.0 down across c.requires.1 i.end c.requires.4 h t)
-    (all_passed c.requires.0 h i.rows i.cols down across same c.requires.2 c.requires.3 c.if-input-gt-MOST_CELLS.false c.in_ok-check_cuts.ensures)
+    (all_passed c.requires.0 h i.sides.rows i.sides.cols down across same c.requires.2 c.requires.3 (subst (λ n. n ≤ 4096) c.cells.ensures c.if-cells-gt-MOST_CELLS.false) c.in_ok-check_cuts.ensures)
     c.print_sheet.result c.print_sheet.ensures
