@@ -44,10 +44,5 @@ returns-then-head-bytes-clause-told g c =
 pub returns-then-head-bytes-clause-unique : goal.returns-then-head-bytes-clause-unique
 returns-then-head-bytes-clause-unique g c = one_sheet _ _ (laws g)
 
-pub returns-clause-told : goal.returns-clause-told
-returns-clause-told g c =
-    let k = subst (λ r. ReadsSheet g.M.Spelled.named g.M.Spelled.spelled c.args.bytes.now r) (read_as _ c.read_sheet.result c.map_err.result c.in_ok-head.head c.map_err.ensures.cases c.in_ok-head.was) c.read_sheet.ensures in
-    told_whole _ _ (laws g) _ k.0 _ k.1 _ _ k.2 k.3 c.if-head-bytes.false
-
 pub returns-clause-unique : goal.returns-clause-unique
 returns-clause-unique g c = one_sheet _ _ (laws g)
