@@ -7,7 +7,7 @@ use Rattle.marks.specs.declared.refusal.Refusal.TheVariants.{Text}
 use Rattle.texts.specs.Texts.{CheckTold, ReadsSheet}
 use Rattle.texts.proofs.Rows.{Spelling}
 use Rattle.texts.proofs.Whole.{one_sheet}
-use Rattle.texts.proofs.Ends.{told_lost, told_more, told_whole}
+use Rattle.texts.proofs.Ends.{told_lost, told_more}
 use Rattle.texts.proofs.checking.check_text.Given as given
 use Rattle.texts.proofs.checking.check_text.Goals as goal
 
