@@ -22,12 +22,12 @@ const MOST_CELLS: usize = 4_096;
 
 // Whether the cuts of an input keep the rules.
 fn check_cuts(input: &Input) -> Result<(), Refusal>
-    ensures { told result ≡ checked (cut_checks input.now.rows (cuts_of input.now.down) input.now.cols (cuts_of input.now.across)) tt }
+    ensures { told result ≡ checked (cut_checks input.now.sides.rows (cuts_of input.now.down) input.now.sides.cols (cuts_of input.now.across)) tt }
 {
     CutList::new(
-        input.rows,
+        input.sides.rows,
         input.down.as_slice(),
-        input.cols,
+        input.sides.cols,
         input.across.as_slice(),
     )?;
     Ok(())
@@ -38,7 +38,7 @@ fn answer_input<M: CodedMark>(heap: Global, bytes: &[u8], input: Input) -> Resul
     requires { ReadsInput M.Spelled.named M.Spelled.spelled bytes.now (Ok input) }
     ensures { (answered vec_items (told result) ≡ refused 27 0) ⊎ AnsweredAs (coded_of M.Order M.Mark.lowest M.Spelled) bytes.now (answered vec_items (told result)) }
 {
-    if input.rows * input.cols > MOST_CELLS {
+    if input.sides.cells() > MOST_CELLS {
         return Err(Refusal::Size);
     }
     check_cuts(&input)?;

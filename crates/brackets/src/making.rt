@@ -32,10 +32,10 @@ impl<'a, M: CodedMark> Text<'a, M> {
     pub fn new(heap: Global, bytes: &'a [u8]) -> Result<Text<'a, M>, Refusal>
         ensures { TextTold M.Spelled.named M.Spelled.spelled bytes.now (answered (λ s. in_text M.CodedMark.decoded M.Spelled.spelled s.sides.rows s.sides.cols s.bytes.now) (told result)) }
     {
-        let (rows, cols) = check_text::<M>(bytes)?;
-        let starts = row_starts(heap, bytes, rows)?;
+        let sides = check_text::<M>(bytes)?;
+        let starts = row_starts(heap, bytes, sides.rows)?;
         Ok(Text {
-            sides: Sides { rows, cols },
+            sides,
             bytes,
             starts,
             kind: PhantomData,

@@ -30,7 +30,7 @@ IsInput {M = M} word f bs = (g : Grid M) × (down : List ℕ) × (across : List 
 -- what a reader of an input of a kind answers: its sheet's sides, where the sheet's text ends, and its cuts; or the length
 -- of the longest beginning that the bytes share with any such input
 abbrev pub ReadsInput : {M : Type 0} → List ℕ → (M → List ℕ) → List ℕ → Result Input ℕ → Type 0
-ReadsInput {M = M} word f bs (Ok i) = (g : Grid M) × Reading word f bs g (cuts_of i.down) (cuts_of i.across) × (g.rows ≡ i.rows) × (g.cols ≡ i.cols) × (i.end ≡ length (text_of word f g))
+ReadsInput {M = M} word f bs (Ok i) = (g : Grid M) × Reading word f bs g (cuts_of i.down) (cuts_of i.across) × (g.rows ≡ i.sides.rows) × (g.cols ≡ i.sides.cols) × (i.end ≡ length (text_of word f g))
 ReadsInput word f bs (Err p) = (IsInput word f bs → ⊥) × LongestShared (inputs word f) bs p
 
 -- what is written in one way or in another

@@ -6,6 +6,7 @@ use crate::cuts::Cuts;
 use texts::Cursor;
 
 // Reads the blank before a cut, where so many may follow, or the bracket behind the last: whether a cut follows.
+// Its answer is a truth value: that a cut follows and that none does are two answers to one question, and no value is absent.
 fn mark<'a>(from: Cursor<'a>, left: usize) -> Result<(bool, Cursor<'a>), usize>
     ensures { ReadsMark left from.entry result }
 {

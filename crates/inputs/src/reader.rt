@@ -29,8 +29,7 @@ pub fn read_input<M: CodedMark>(bytes: &[u8]) -> Result<Input, usize>
         return Err(end);
     }
     Ok(Input {
-        rows: head.rows,
-        cols: head.cols,
+        sides: head.sides,
         end: head.end,
         down,
         across,

@@ -26,7 +26,7 @@ fn accepted<M: CodedMark>(
 ) -> Result<(), Fail> {
     match check_text::<M>(text.as_bytes()) {
         Ok(sides) => {
-            assert_eq!(rt; sides, (rows, cols));
+            assert_eq!(rt; (sides.rows, sides.cols), (rows, cols));
             Ok(())
         },
         Err(_) => Err(Fail::new("refused")),

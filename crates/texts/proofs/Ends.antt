@@ -5,6 +5,7 @@ use Rattle.grammar.specs.Grammars.{Grammar, Found, Lost, LongestShared, Shared}
 use Rattle.grammar.proofs.Theory.{longest_lost, longest_found, lost_none, sofar_none, sofar_turn, sofar_lost}
 use Rattle.marks.specs.Refusals.{accepted, refused}
 use Rattle.sheets.specs.Grids.{Grid}
+use Rattle.sheets.specs.declared.sides.Sides.{Sides}
 use Rattle.texts.specs.Parts.{RowOf, body, HeadOf, head, WholeOf, whole}
 use Rattle.texts.specs.Cursors.{Behind, LostAt}
 use Rattle.texts.specs.declared.cursor.Cursor.{Cursor}
@@ -33,14 +34,14 @@ module _ {M : Type 0} (word : List ℕ) (f : M → List ℕ) (laws : Spelling f)
     pub head_lost : (p : ℕ) → LostAt (head word) c p → Lost (texts word f) 0 bytes p
     head_lost p h = from_start p (step_lost (head word) Rest (code_head word) begun (λ z _. some_body f laws z.1.1.1.0 z.1.1.1.1) p h)
 
-    module _ (rows cols : ℕ) (d : Cursor) (h : Behind (head word) c (tt, (tt, (tt, (rows, cols)))) d) where
+    module _ (sides : Sides) (d : Cursor) (h : Behind (head word) c (tt, (tt, (tt, (sides.rows, sides.cols)))) d) where
       abbrev z : HeadOf
-      z = (tt, (tt, (tt, (rows, cols))))
+      z = (tt, (tt, (tt, (sides.rows, sides.cols))))
 
       pub rows_lost : (p : ℕ) → LostAt (Rest z) d p → Lost (texts word f) 0 bytes p
       rows_lost p k = from_start p (going_lost (step_found (head word) Rest (code_head word) begun z d h) p k)
 
-      pub rows_found : (b : List (RowOf M) × (Unit {0})) (e : Cursor) (end : ℕ) → end ≡ e.at → Behind (Rest z) d b e → ReadsSheet word f bytes (Ok (record { rows = rows; cols = cols; end = end }))
+      pub rows_found : (b : List (RowOf M) × (Unit {0})) (e : Cursor) (end : ℕ) → end ≡ e.at → Behind (Rest z) d b e → ReadsSheet word f bytes (Ok (record { sides = sides; end = end }))
       rows_found b e end stop k =
           let all = (both_found (head word) Rest c d e z b h k).found in
           let is = sheet_text word f (z, b) all.valid in (

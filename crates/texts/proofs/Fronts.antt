@@ -1,6 +1,5 @@
 -- The bytes before the first blank, line end or bracket. Assumes nothing.
-use Rattle.std.proofs.Common.{◌≡◌, ℕ, ◌+◌, ◌<◌, ◌≤◌, Bool, true, false, cond, ◌||◌, eqb, ltb, position, unwrap_or, one-add, List, [], ◌∷◌, ◌++◌, length, get_or, take, drop, Some, None, Option, sym, refl, ap, ◌∙◌, subst, inl, inr, ⊎_elim, arith}
-use Rattle.std.proofs.lemmas.List.{drop_more, drop_all}
+use Rattle.std.proofs.Common.{◌≡◌, ℕ, ◌+◌, ◌≤◌, Bool, true, false, cond, ◌||◌, ltb, position, unwrap_or, one-add, List, [], ◌∷◌, ◌++◌, length, take, Some, None, sym, refl, ap, ◌∙◌, subst, inl, inr, ⊎_elim, arith}
 use mathlib.Core.Bool.{not}
 use Rattle.std.specs.List.{position_or_len}
 use Rattle.std.proofs.lemmas.Bool.{ltb-false}
@@ -8,11 +7,7 @@ use Rattle.std.proofs.lemmas.List.Sums.{prefix_len-le-length}
 use Rattle.std.proofs.lemmas.List.Folds.{length-prefix_len}
 use Rattle.std.proofs.lemmas.Bool.Decides.{eqb_tells}
 use Rattle.marks.specs.Spellings.{Separator}
-use Rattle.texts.specs.Tokens.{spacing, separates, numeric, front, Part, word, number, opening, closing, begun_by, part_of}
-
--- a byte that is another passes no test for it
-other : (b k : ℕ) → (b ≡ k → ⊥) → eqb b k ≡ false
-other b k apart = ⊎_elim (λ p. absurd (apart p.1)) (λ p. p.0) (eqb_tells b k)
+use Rattle.texts.specs.Tokens.{separates, front}
 
 -- the test tells a separator
 pub separator_test : (b : ℕ) → Separator b → separates b ≡ true
@@ -87,38 +82,3 @@ front_clear (b ∷ bs) u w t s e = by (separates b) refl (λ v. front_clear bs v
         let no : separates t ≡ false = ap separates (sym same) ∙ is in
         let z : ◌≡◌ {A = ℕ} 0 1 = cc in omega arith
     by false is rec (x ∷ u) e = let some = sym (front_cons b bs is) ∙ e in rec u (cc)
-
--- the part that stands at a place, by its first byte
-pub part_is : (bs : List ℕ) (at : ℕ) → at < length bs → part_of (drop at bs) ≡ begun_by (get_or bs at 0) (front (drop at bs))
-part_is bs at h = let e = drop_more bs at 0 h in ap part_of e ∙ ap (λ w. begun_by (get_or bs at 0) (front w)) (sym e)
-
--- where neither a word nor a number stands, there are no bytes before the first separator
-pub front_past : (bs : List ℕ) (at : ℕ) → length bs ≤ at → front (drop at bs) ≡ []
-front_past bs at h = ap front (drop_all at bs h)
-
-abbrev pick : Bool → Bool → Bool → Bool → List ℕ → Option Part
-pick s o c n w = cond s None (cond o (Some opening) (cond c (Some closing) (cond n (Some (number w)) (Some (word w)))))
-
--- the part that stands at a place, by its first byte
-module _ (bs : List ℕ) (at : ℕ) (inside : at < length bs) where
-  abbrev here : ℕ
-  here = get_or bs at 0
-
-  abbrev bytes : List ℕ
-  bytes = front (drop at bs)
-
-  pub part_space : spacing here ≡ true → part_of (drop at bs) ≡ None
-  part_space e = part_is bs at inside ∙ ap (λ t. pick t (eqb here 40) (eqb here 41) (numeric here) bytes) e
-
-  pub part_open : here ≡ 40 → part_of (drop at bs) ≡ Some opening
-  part_open e = part_is bs at inside ∙ ap (λ k. begun_by k bytes) e
-
-  pub part_close : here ≡ 41 → part_of (drop at bs) ≡ Some closing
-  part_close e = part_is bs at inside ∙ ap (λ k. begun_by k bytes) e
-
-  module _ (plain : spacing here ≡ false) (no-open : here ≡ 40 → ⊥) (no-close : here ≡ 41 → ⊥) where
-    pub part_number : numeric here ≡ true → part_of (drop at bs) ≡ Some (number bytes)
-    part_number e = part_is bs at inside ∙ (λ i. pick (plain i) (other here 40 no-open i) (other here 41 no-close i) (e i) bytes)
-
-    pub part_word : numeric here ≡ false → part_of (drop at bs) ≡ Some (word bytes)
-    part_word e = part_is bs at inside ∙ (λ i. pick (plain i) (other here 40 no-open i) (other here 41 no-close i) (e i) bytes)

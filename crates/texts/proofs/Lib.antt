@@ -1,3 +1,4 @@
+pub mod Options
 pub mod Fronts
 pub mod Scans
 pub mod Going

@@ -67,7 +67,7 @@ CheckTold word f bs (refused n p) = (n ≡ 8) × (AcceptedText word f bs → ⊥
 -- what a reader of a text that more may follow answers: the sides of the sheet with whose text the bytes begin, and where
 -- that ends; or the place at which the bytes part from every accepted text
 abbrev pub ReadsSheet : {M : Type 0} → List ℕ → (M → List ℕ) → List ℕ → Result Heading ℕ → Type 0
-ReadsSheet {M = M} word f bs (Ok h) = (g : Grid M) × Found (texts word f) 0 bs g h.end × (g.rows ≡ h.rows) × (g.cols ≡ h.cols)
+ReadsSheet {M = M} word f bs (Ok h) = (g : Grid M) × Found (texts word f) 0 bs g h.end × (g.rows ≡ h.sides.rows) × (g.cols ≡ h.sides.cols)
 ReadsSheet word f bs (Err p) = Lost (texts word f) 0 bs p
 
 -- two sheets with one text are one sheet

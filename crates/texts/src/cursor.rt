@@ -7,7 +7,7 @@ use crate::tokens::written;
 use grammar::{literal, natural};
 
 // A place in a text, or its end.
-#[derive(Clone, Copy)]
+#[derive(Clone, Copy, PartialEq, Eq, Debug)]
 pub struct Cursor<'a> {
     pub(crate) bytes: &'a [u8],
     pub(crate) at: usize,

@@ -7,6 +7,7 @@ ghost use Rattle.texts.specs.Texts.{ReadsSheet};
 use crate::cursor::Cursor;
 use crate::heading::Heading;
 use marks::CodedMark;
+use sheets::Sides;
 
 impl<'a> Cursor<'a> {
     ghost use Rattle.texts.specs.Cursors.{Behind, LostAt, ReadsOn};
@@ -19,10 +20,8 @@ impl<'a> Cursor<'a> {
     {
         let word = self.written();
         let stop = self.at + M::shared_beginning(word);
-        match M::from_spelling(word) {
-            Some(_) => Cursor::new(self.bytes, stop).word(&[end]),
-            None => Err(stop),
-        }
+        M::from_spelling(word).ok_or(stop)?;
+        Cursor::new(self.bytes, stop).word(&[end])
     }
 
     // Reads a side and the byte that ends it.
@@ -46,26 +45,25 @@ impl<'a> Cursor<'a> {
         at.mark::<M>(b')')?.word(b"\n")
     }
 
-    // Reads `rows` lines of `cols` marks, and the last line.
-    fn body<M: CodedMark>(self, rows: usize, cols: usize) -> Result<Cursor<'a>, usize>
-        requires { 1 ≤ cols }
-        ensures { ReadsOn (body_grammar M.Spelled.spelled rows cols) self.entry result }
+    // Reads the lines of as many rows of marks as a sheet has, and the last line.
+    fn body<M: CodedMark>(self, sides: Sides) -> Result<Cursor<'a>, usize>
+        ensures { ReadsOn (body_grammar M.Spelled.spelled sides.rows sides.cols) self.entry result }
     {
         let mut at = self;
-        for k in 0..rows {
-            at = at.row::<M>(cols)?;
+        for k in 0..sides.rows {
+            at = at.row::<M>(sides.cols)?;
         }
         at.word(b")\n")
     }
 
     // Reads the first line: the sides, and where the rows begin.
-    fn first_line<M: CodedMark>(self) -> Result<(usize, usize, Cursor<'a>), usize>
-        ensures { MatchResult result (λ h. Behind (head_grammar M.Spelled.named) self.entry (tt, (tt, (tt, (h.0, h.1)))) h.2) (λ p. LostAt (head_grammar M.Spelled.named) self.entry p) }
+    fn first_line<M: CodedMark>(self) -> Result<(Sides, Cursor<'a>), usize>
+        ensures { MatchResult result (λ h. Behind (head_grammar M.Spelled.named) self.entry (tt, (tt, (tt, (h.0.rows, h.0.cols)))) h.1) (λ p. LostAt (head_grammar M.Spelled.named) self.entry p) }
     {
         let first = self.word(b"(sheet ")?.word(M::name())?.word(b" ")?;
         let (rows, second) = first.side(b' ')?;
         let (cols, lines) = second.side(b'\n')?;
-        Ok((rows, cols, lines))
+        Ok((Sides { rows, cols }, lines))
     }
 }
 
@@ -73,7 +71,7 @@ impl<'a> Cursor<'a> {
 pub fn read_sheet<M: CodedMark>(bytes: &[u8]) -> Result<Heading, usize>
     ensures { ReadsSheet M.Spelled.named M.Spelled.spelled bytes.now result }
 {
-    let (rows, cols, lines) = Cursor::new(bytes, 0).first_line::<M>()?;
-    let end = lines.body::<M>(rows, cols)?.place();
-    Ok(Heading { rows, cols, end })
+    let (sides, lines) = Cursor::new(bytes, 0).first_line::<M>()?;
+    let end = lines.body::<M>(sides)?.place();
+    Ok(Heading { sides, end })
 }

@@ -3,7 +3,7 @@ ghost use Rattle.std.specs.Prelude.{◌≡◌, drop, position};
 ghost use Rattle.texts.specs.Tokens.{spacing, separates, numeric, front, part_of, shown};
 
 // A word, a number or a bracket. Words and numbers are the bytes of the text that they stand in.
-#[derive(Clone, Copy)]
+#[derive(Clone, Copy, PartialEq, Eq, Debug)]
 pub enum Token<'a> {
     Word(&'a [u8]),
     Number(&'a [u8]),

@@ -1,7 +1,7 @@
-use Rattle.std.proofs.Common.{sym, refl, subst, ⊎_elim, arith}
+use Rattle.std.proofs.Common.{sym, refl, subst, arith}
 use Rattle.grammar.specs.Grammars.{LongestShared}
 use Rattle.inputs.specs.Inputs.{inputs, either}
-use Rattle.answers.specs.Answers.{heights, classes, no_memory, no_input, of_heights, of_classes}
+use Rattle.answers.specs.Answers.{heights, classes, no_input}
 use Rattle.answers.proofs.OfKind.{either_longest}
 use Rattle.answers.proofs.answering.answer.Goals as goal
 

@@ -1,13 +1,13 @@
 use Rattle.std.proofs.Common.{◌≡◌, ℕ, Ok, Err, Result, MatchResult, rules, sym, refl, ap, subst, ◌∙◌, arith}
 use Rattle.std.specs.Result.{IsErrAnd}
 use Rattle.std.proofs.lemmas.Result.{err_from_is_err_and}
-use Rattle.marks.specs.Refusals.{told}
+use Rattle.marks.specs.Refusals.{told, answered}
 use Rattle.marks.specs.declared.refusal.Refusal.{Refusal}
 use Rattle.marks.specs.declared.refusal.Refusal.TheVariants.{Text}
 use Rattle.texts.specs.Texts.{CheckTold, ReadsSheet}
 use Rattle.texts.proofs.Rows.{Spelling}
 use Rattle.texts.proofs.Whole.{one_sheet}
-use Rattle.texts.proofs.Ends.{told_lost, told_more, told_whole}
+use Rattle.texts.proofs.Ends.{told_lost, told_more}
 use Rattle.texts.proofs.checking.check_text.Given as given
 use Rattle.texts.proofs.checking.check_text.Goals as goal
 
@@ -31,7 +31,7 @@ returns-in_err-head-clause-told g c =
     let k = refused_at _ c.read_sheet.result c.map_err.result _ c.map_err.ensures.cases (λ p e q. search rules) c.in_err-head.was in
     let lost = subst (λ r. ReadsSheet g.M.Spelled.named g.M.Spelled.spelled bs r) k.1 c.read_sheet.ensures in
     let p = err_from_is_err_and c.from_residual.result c.from_residual.ensures.1 in
-    subst (λ r. CheckTold g.M.Spelled.named g.M.Spelled.spelled bs (told r)) (ap Err (sym (p.2 ∙ k.2)) ∙ sym p.1) (told_lost _ _ (laws g) bs k.0 lost)
+    subst (λ r. CheckTold g.M.Spelled.named g.M.Spelled.spelled bs (answered (λ s. (s.rows, s.cols)) (told r))) (ap Err (sym (p.2 ∙ k.2)) ∙ sym p.1) (told_lost _ _ (laws g) bs k.0 lost)
 
 pub returns-in_err-head-clause-unique : goal.returns-in_err-head-clause-unique
 returns-in_err-head-clause-unique g c = one_sheet _ _ (laws g)
@@ -43,11 +43,6 @@ returns-then-head-bytes-clause-told g c =
 
 pub returns-then-head-bytes-clause-unique : goal.returns-then-head-bytes-clause-unique
 returns-then-head-bytes-clause-unique g c = one_sheet _ _ (laws g)
-
-pub returns-clause-told : goal.returns-clause-told
-returns-clause-told g c =
-    let k = subst (λ r. ReadsSheet g.M.Spelled.named g.M.Spelled.spelled c.args.bytes.now r) (read_as _ c.read_sheet.result c.map_err.result c.in_ok-head.head c.map_err.ensures.cases c.in_ok-head.was) c.read_sheet.ensures in
-    told_whole _ _ (laws g) _ k.0 _ k.1 _ _ k.2 k.3 c.if-head-bytes.false
 
 pub returns-clause-unique : goal.returns-clause-unique
 returns-clause-unique g c = one_sheet _ _ (laws g)

@@ -13,5 +13,5 @@ coding g = let m = g.met.M.CodedMark in record { narrow = m.narrow; encodes = m.
 
 pub returns : goal.returns
 returns g c =
-    let t = c.in_ok-rows.ensures.told in
-    text_back g.M.Spelled.named g.met.M.CodedMark.whole g.M.CodedMark.coded g.M.CodedMark.decoded g.M.Spelled.spelled (spelling g) (coding g) c.args.bytes.now t.0 t.1 c.in_ok-rows.rows c.in_ok-rows.cols (ap (λ s. s.0) (sym t.2)) (ap (λ s. s.1) (sym t.2))
+    let t = c.in_ok-sides.ensures.told in
+    text_back g.M.Spelled.named g.met.M.CodedMark.whole g.M.CodedMark.coded g.M.CodedMark.decoded g.M.Spelled.spelled (spelling g) (coding g) c.args.bytes.now t.0 t.1 c.in_ok-sides.sides.rows c.in_ok-sides.sides.cols (ap (λ s. s.0) (sym t.2)) (ap (λ s. s.1) (sym t.2))
