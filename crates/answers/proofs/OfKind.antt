@@ -58,9 +58,9 @@ all_passed g h rows cols down across s er ec few cuts =
 
 -- the answer to an input that passed
 module _ {M : Type 0} (κ : Coded M) (bytes : List ℕ) (g : Grid M) (down across : List ℕ) (r : Reading κ.word κ.spelled bytes g down across) (passed : accepted (tt {0}) ≡ checked ((ltb 4096 (g.rows * g.cols), 1) ∷ cut_checks g.rows down g.cols across) tt) where
-  pub printed_answer : (o : Result (Vec ℕ Global) Refusal) → MatchResult o (λ v. Printed κ g (vec_items v)) (λ e. e ≡ NoMemory) → (answered vec_items (told o) ≡ refused 27 0) ⊎ AnsweredAs κ bytes (answered vec_items (told o))
-  printed_answer (Ok v) h = inr (g, down, across, r, record { checks = passed; prints = h })
-  printed_answer (Err e) h = inl (ap (λ x. refused (number x) (placed x)) h)
+  pub printed_answer : (o : Result (Vec ℕ Global) Refusal) → MatchResult o (λ v. Printed κ g (vec_items v)) (λ e. e ≡ NoMemory) → AnsweredAs κ bytes (answered vec_items (told o))
+  printed_answer (Ok v) h = (g, down, across, r, inr (record { checks = passed; prints = h }))
+  printed_answer (Err e) h = (g, down, across, r, inl (record { checks = passed; refusal = ap (λ x. refused (number x) (placed x)) h }))
 
 -- what is shared with either of two grammars
 pub either_longest : {A B : Type 0} (K : Grammar A) (L : Grammar B) (bs : List ℕ) (p q : ℕ) → LongestShared K bs p → LongestShared L bs q → LongestShared (either K L) bs (max p q)

@@ -1,6 +1,6 @@
 // The whole answer.
-ghost use Rattle.std.specs.Prelude.{◌≡◌, ◌⊎◌, Ok, vec_items};
-ghost use Rattle.marks.specs.Refusals.{told, checked, answered, refused};
+ghost use Rattle.std.specs.Prelude.{◌≡◌, Ok, vec_items};
+ghost use Rattle.marks.specs.Refusals.{told, checked, answered};
 ghost use Rattle.tiles.specs.Rules.{cut_checks};
 ghost use Rattle.inputs.specs.Cuts.{cuts_of};
 ghost use Rattle.inputs.specs.Inputs.{ReadsInput};
@@ -36,7 +36,7 @@ fn check_cuts(input: &Input) -> Result<(), Refusal>
 // The answer to an input of a kind.
 fn answer_input<M: CodedMark>(heap: Global, bytes: &[u8], input: Input) -> Result<Vec<u8>, Refusal>
     requires { ReadsInput M.Spelled.named M.Spelled.spelled bytes.now (Ok input) }
-    ensures { (answered vec_items (told result) ≡ refused 27 0) ⊎ AnsweredAs (coded_of M.Order M.Mark.lowest M.Spelled) bytes.now (answered vec_items (told result)) }
+    ensures { AnsweredAs (coded_of M.Order M.Mark.lowest M.Spelled) bytes.now (answered vec_items (told result)) }
 {
     if input.sides.cells() > MOST_CELLS {
         return Err(Refusal::Size);

@@ -3,7 +3,7 @@ use Rattle.std.specs.Prelude.{◌≡◌, ℕ, zero, suc, ◌^◌, Bool, true, fa
 use Rattle.sheets.specs.Grids.{Cell, cell_of, Grid}
 use Rattle.marks.specs.Refusals.{Told, accepted, refused}
 use Rattle.texts.specs.Tokens.{front}
-use Rattle.texts.specs.Texts.{TextOf, CheckTold}
+use Rattle.texts.specs.Texts.{AcceptedText, TextOf, CheckTold}
 use Rattle.brackets.specs.Lines.{lines_on, parts_on}
 
 -- the same bytes
@@ -37,7 +37,7 @@ abbrev pub in_text : {M : Type 0} → (ℕ → Option M) → (M → List ℕ) �
 in_text decoded f rows cols bs = record { rows = rows; cols = cols; cell = λ i j. cell_along decoded f (parts_on 2 (lines_on (suc i) bs)) j }
 
 -- what making a sheet of a text tells: the sheet whose text the bytes are; or 8, with the place, if they are no sheet's
--- text; or 27, for want of memory
+-- text; or 27, if they are, and there was no memory
 abbrev pub TextTold : {M : Type 0} → List ℕ → (M → List ℕ) → List ℕ → Told (Grid M) → Type 0
 TextTold word f bs (accepted g) = TextOf word f bs g
-TextTold word f bs (refused n p) = ((n ≡ 27) × (p ≡ 0)) ⊎ CheckTold word f bs (refused n p)
+TextTold word f bs (refused n p) = ((n ≡ 27) × (p ≡ 0) × AcceptedText word f bs) ⊎ CheckTold word f bs (refused n p)
