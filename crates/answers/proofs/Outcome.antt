@@ -1,8 +1,11 @@
 -- A sheet that is filled into a raster. Assumes nothing.
-use Rattle.std.proofs.Common.{◌≡◌, ℕ, zero, suc, ◌+◌, ◌*◌, ◌<◌, ◌≤◌, true, false, not, ◌&&◌, eqb, ltb, List, [], ◌∷◌, ◌++◌, length, sym, refl, ap, ◌∙◌, ⊎_elim, zero-add, arith}
+use Rattle.std.proofs.Common.{◌≡◌, ℕ, zero, suc, ◌+◌, ◌*◌, ◌<◌, ◌≤◌, true, false, not, ◌&&◌, eqb, ltb, List, [], ◌∷◌, ◌++◌, length, Ok, Err, Vec, vec_items, sym, refl, ap, ◌∙◌, ⊎_elim, zero-add, arith}
+use Rattle.std.specs.declared.alloc.Global.{Global}
 use Rattle.std.proofs.lemmas.Bool.{le-ltb, or_from}
 use Rattle.std.proofs.lemmas.Bool.Decides.{eqb_tells}
-use Rattle.marks.specs.Refusals.{accepted, refused, checked}
+use Rattle.marks.specs.Refusals.{accepted, refused, checked, number, placed}
+use Rattle.marks.specs.declared.refusal.Refusal.{Refusal}
+use Rattle.marks.specs.declared.refusal.Refusal.TheVariants.{NoMemory}
 use Rattle.sheets.specs.Grids.{Grid, is_dead, Side}
 use Rattle.sheets.specs.Runs.{broken}
 use Rattle.sheets.specs.Copies.{broken_rows}
@@ -14,6 +17,7 @@ use Rattle.sheets.proofs.Spans.{unbroken, flat_unbroken}
 use Rattle.sheets.proofs.Places.{run_end}
 use Rattle.terrain.specs.Fills.{other_sides, raised, FilledSheet}
 use Rattle.texts.specs.Texts.{Readable, text_of}
+use Rattle.brackets.specs.Writes.{MemoryTold}
 use Rattle.answers.specs.Printed.{Coded, Printed, raised_line}
 
 same_test : (a b : ℕ) → a ≡ b → eqb a b ≡ true
@@ -59,3 +63,20 @@ module _ {M : Type 0} (g h : Grid M) (rows : h.rows ≡ g.rows) (cols : h.cols �
         filled = record { rows = filled.rows ∙ rows; cols = filled.cols ∙ cols; cells = filled.cells };
         is = is ∙ (λ i. e i ++ raised_line (count i));
       }
+
+-- the text of a sheet without dead cells, with scratch for a row: only want of memory refuses it
+module _ {M : Type 0} (word : List ℕ) (f : M → List ℕ) (g : Grid M) (room : ℕ) where
+  pub no_memory : (e : Refusal) → g.cols ≤ room → dead_in g ≡ false → MemoryTold word f g room (Err e) → e ≡ NoMemory
+  no_memory e wide live told =
+      let w = text_of word f g in
+      let r = refused (number e) (placed e) in
+      ⊎_elim
+      (λ t. absurd (not_refused (number e) (placed e) w (past (dead_in g) 7 [] w r live (past (ltb room g.cols) 5 ((dead_in g, 7) ∷ []) w r (le-ltb room g.cols wide) t))))
+      (λ n. n.0)
+      told
+
+  pub text_in_memory : (v : Vec ℕ Global) → MemoryTold word f g room (Ok v) → vec_items v ≡ text_of word f g
+  text_in_memory v told =
+      let w = text_of word f g in
+      let p = passed (ltb room g.cols) 5 ((dead_in g, 7) ∷ []) (vec_items v) w told in
+      let q = passed (dead_in g) 7 [] (vec_items v) w p.1 in answer (vec_items v) w q.1

@@ -8,9 +8,10 @@ ghost use Rattle.answers.specs.Printed.{coded_of};
 ghost use Rattle.answers.specs.Answers.{AnsweredAs, Answer};
 
 use crate::filling::print_sheet;
-use brackets::Text;
+use brackets::text_marks;
 use inputs::{Input, read_input};
 use marks::{Class, CodedMark, Height, Refusal};
+use sheets::{Raster, Sides};
 use std::alloc::Global;
 use tiles::CutList;
 
@@ -42,7 +43,9 @@ fn answer_input<M: CodedMark>(heap: Global, bytes: &[u8], input: Input) -> Resul
         return Err(Refusal::Size);
     }
     check_cuts(&input)?;
-    let source = Text::<M>::new(heap, &bytes[0..input.end])?;
+    let Sides { rows, cols } = input.sides;
+    let mut marks = text_marks::<M>(heap, &bytes[0..input.end], input.sides)?;
+    let source = Raster::new(rows, cols, marks.as_mut_slice())?;
     print_sheet(heap, &source)
 }
 

@@ -7,7 +7,8 @@ ghost use Rattle.terrain.specs.Fills.{dead_in};
 ghost use Rattle.terrain.specs.Fills.{other_sides, raised, FillLeaves, size};
 ghost use Rattle.answers.specs.Printed.{coded_of, Printed};
 
-use crate::printing::{append_raised, sheet_text};
+use crate::printing::append_raised;
+use brackets::sheet_text;
 use flood::Entry;
 use marks::{CodedMark, Refusal};
 use sheets::{Raster, Sheet, Sides};

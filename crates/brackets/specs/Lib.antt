@@ -1,3 +1,4 @@
 pub mod Lines
 pub mod Cells
+pub mod Decoded
 pub mod Writes

@@ -1,8 +1,10 @@
 -- Writing the text of a sheet. Assumes nothing.
-use Rattle.std.specs.Prelude.{◌≡◌, ℕ, ◌+◌, ◌≤◌, List, [], ◌∷◌, ◌++◌, map, length, take, drop, Ok, Err, codes, Result, nat_lt}
+use Rattle.std.specs.Prelude.{◌≡◌, ℕ, ◌+◌, ◌≤◌, ◌⊎◌, List, [], ◌∷◌, ◌++◌, map, length, take, drop, Ok, Err, codes, Vec, vec_items, Result, nat_lt}
+use Rattle.std.specs.declared.alloc.Global.{Global}
 use Rattle.std.specs.List.{range_with_len}
 use Rattle.marks.specs.declared.refusal.Refusal.{Refusal}
-use Rattle.marks.specs.Refusals.{Told, checked, number}
+use Rattle.marks.specs.Refusals.{Told, accepted, refused, checked, number, placed}
+use Rattle.marks.specs.declared.refusal.Refusal.TheVariants.{NoMemory}
 use Rattle.terrain.specs.Fills.{dead_in}
 use Rattle.sheets.specs.Grids.{Grid}
 use Rattle.texts.specs.Texts.{together, row_line, text_of}
@@ -32,6 +34,13 @@ writing_told word f g room space = checked ((nat_lt room g.cols, 5) ∷ (dead_in
 abbrev pub WritingLeaves : {M : Type 0} → List ℕ → (M → List ℕ) → Grid M → List ℕ → List ℕ → Result ℕ Refusal → Type 0
 WritingLeaves word f g before after (Ok n) = after ≡ text_of word f g ++ drop (length (text_of word f g)) before
 WritingLeaves word f g before after (Err e) = after ≡ before
+
+-- what the text of a sheet in memory tells: refused as its length is; else the text, or 27 where there was no memory for it
+abbrev pub MemoryTold : {M : Type 0} → List ℕ → (M → List ℕ) → Grid M → ℕ → Result (Vec ℕ Global) Refusal → Type 0
+MemoryTold word f g room (Ok v) = accepted (vec_items v) ≡ checked ((nat_lt room g.cols, 5) ∷ (dead_in g, 7) ∷ []) (text_of word f g)
+MemoryTold word f g room (Err e) =
+    (refused (number e) (placed e) ≡ checked ((nat_lt room g.cols, 5) ∷ (dead_in g, 7) ∷ []) (text_of word f g))
+    ⊎ ((e ≡ NoMemory) × (accepted (tt {0}) ≡ checked ((nat_lt room g.cols, 5) ∷ (dead_in g, 7) ∷ []) tt))
 
 -- scratch is unchanged after 5, and free otherwise
 abbrev pub ScratchKept : {M X : Type 0} → List M → List M → Result X Refusal → Type 0

@@ -2,12 +2,14 @@
 #![tactic(auto)]
 
 mod cells;
+mod decoding;
 mod making;
 mod measuring;
 mod parts;
 mod text;
 mod writing;
 
+pub use decoding::text_marks;
 pub use measuring::text_length;
 pub use text::Text;
-pub use writing::write_text;
+pub use writing::{sheet_text, write_text};

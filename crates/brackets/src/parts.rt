@@ -1,15 +1,22 @@
 // Going through a text part by part.
-ghost use Rattle.std.specs.Prelude.{◌≡◌, ◌==◌, position};
+ghost use Rattle.std.specs.Prelude.{◌≡◌, ◌+◌, ◌≤◌, ◌==◌, length, drop, position};
 ghost use Rattle.brackets.specs.Lines.{past_part, parts_on, past_line};
 
 use texts::written;
+
+// What follows a part of so many bytes and the byte that ends it.
+pub(crate) fn behind<'a>(text: &'a [u8], len: usize) -> &'a [u8]
+    requires { len ≤ length text.now }
+    ensures { result.now ≡ drop (len + 1) text.now }
+{
+    text.get(len + 1..).unwrap_or(&[])
+}
 
 // What follows the first part and the byte that ends it.
 pub(crate) fn next_part<'a>(text: &'a [u8]) -> &'a [u8]
     ensures { result.now ≡ past_part text.now }
 {
-    let end = written(text, 0).len();
-    text.get(end + 1..).unwrap_or(&[])
+    behind(text, written(text, 0).len())
 }
 
 // What follows the first n parts.

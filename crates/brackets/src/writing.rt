@@ -1,14 +1,15 @@
 // Writing the text of a sheet.
-ghost use Rattle.std.specs.Prelude.{◌≡◌, ◌+◌, ◌<◌, ◌≤◌, false, ◌++◌, length};
+ghost use Rattle.std.specs.Prelude.{◌≡◌, ◌+◌, ◌<◌, ◌≤◌, false, ◌++◌, length, drop};
 ghost use Rattle.marks.specs.Refusals.{told};
 ghost use Rattle.sheets.specs.Grids.{Side};
-ghost use Rattle.texts.specs.Texts.{head_line};
+ghost use Rattle.texts.specs.Texts.{head_line, text_of};
 ghost use Rattle.terrain.specs.Fills.{dead_in};
-ghost use Rattle.brackets.specs.Writes.{Put, row_lines, line_of, blanked, writing_told, WritingLeaves, ScratchKept};
+ghost use Rattle.brackets.specs.Writes.{Put, row_lines, line_of, blanked, writing_told, WritingLeaves, MemoryTold, ScratchKept};
 
 use crate::measuring::{digits, text_length};
 use marks::{CodedMark, Refusal};
 use sheets::{Sheet, Sides};
+use std::alloc::Global;
 
 // Writes some bytes at a place, and answers where they end.
 fn put(out: &mut [u8], at: usize, word: &[u8]) -> usize
@@ -87,6 +88,20 @@ fn put_rows<M: CodedMark, S: Sheet<Mark = M>>(
     at
 }
 
+// Writes the text of a sheet without dead cells at the start of a buffer that has room for it, and answers its length.
+fn put_text<M: CodedMark, S: Sheet<Mark = M>>(sheet: &S, run: &mut [M], out: &mut [u8]) -> usize
+    requires row { (S.Sheet.meaning sheet.now).cols ≤ length run.old }
+    requires live { dead_in (S.Sheet.meaning sheet.now) ≡ false }
+    requires room { length (text_of M.Spelled.named M.Spelled.spelled (S.Sheet.meaning sheet.now)) ≤ length out.old }
+    ensures value { result ≡ length (text_of M.Spelled.named M.Spelled.spelled (S.Sheet.meaning sheet.now)) }
+    ensures leaves { out.new ≡ text_of M.Spelled.named M.Spelled.spelled (S.Sheet.meaning sheet.now) ++ drop (length (text_of M.Spelled.named M.Spelled.spelled (S.Sheet.meaning sheet.now))) out.old }
+{
+    let sides = sheet.sides();
+    let first = put_head::<M>(out, sides);
+    let last = put_rows(sheet, &mut run[..sides.cols], out, first);
+    put(out, last, b")\n")
+}
+
 // Writes the text of a sheet into a buffer, and answers its length. It takes scratch for one row.
 pub fn write_text<M: CodedMark, S: Sheet<Mark = M>>(
     sheet: &S,
@@ -101,8 +116,20 @@ pub fn write_text<M: CodedMark, S: Sheet<Mark = M>>(
     if out.len() < len {
         return Err(Refusal::BufferShort);
     }
-    let sides = sheet.sides();
-    let first = put_head::<M>(out, sides);
-    let last = put_rows(sheet, &mut scratch[..sides.cols], out, first);
-    Ok(put(out, last, b")\n"))
+    Ok(put_text(sheet, scratch, out))
+}
+
+// The text of a sheet, in memory; its length is measured once. It takes scratch for one row.
+pub fn sheet_text<M: CodedMark, S: Sheet<Mark = M>>(
+    heap: Global,
+    sheet: &S,
+    scratch: &mut [M],
+) -> Result<Vec<u8>, Refusal>
+    ensures told { MemoryTold M.Spelled.named M.Spelled.spelled (S.Sheet.meaning sheet.now) (length scratch.old) result }
+    ensures scratch { ScratchKept scratch.old scratch.new result }
+{
+    let len = text_length(sheet, scratch)?;
+    let mut text = vec![in heap; b' '; len]?;
+    put_text(sheet, scratch, text.as_mut_slice());
+    Ok(text)
 }

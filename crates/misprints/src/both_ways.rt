@@ -1,7 +1,7 @@
 // Texts that are read and written again, and marks that are written and read again.
-use brackets::{Text, text_length, write_text};
+use brackets::{Text, sheet_text, text_length, text_marks, write_text};
 use marks::{Class, CodedMark, Height, Mark, Refusal};
-use sheets::{Raster, Sheet};
+use sheets::{Raster, Sheet, Sides};
 use std::alloc::Global;
 use std::test::Fail;
 
@@ -39,6 +39,18 @@ fn printed<M: CodedMark>(
 ) -> Result<Vec<u8>, Refusal> {
     let sheet = Raster::new(rows, cols, marks)?;
     text_of(heap, &sheet, row, 0)
+}
+
+// The text of marks in a raster, in memory.
+fn in_memory<M: CodedMark>(
+    heap: Global,
+    rows: usize,
+    cols: usize,
+    marks: &mut [M],
+    row: &mut [M],
+) -> Result<Vec<u8>, Refusal> {
+    let sheet = Raster::new(rows, cols, marks)?;
+    sheet_text(heap, &sheet, row)
 }
 
 // Reads a run of a text.
@@ -92,6 +104,21 @@ fn marks_come_back(rt: HostRuntime) -> Result<(), Fail> {
     assert_eq!(rt; run, [Class::Open, Class::Wet, Class::Void]);
     read_run(heap, text.as_slice(), 1, 0, &mut run)?;
     assert_eq!(rt; run, [Class::Kept, Class::Peat, Class::Moist]);
+    Ok(())
+}
+
+#[test]
+fn marks_in_memory(rt: HostRuntime) -> Result<(), Fail> {
+    let heap = rt.alloc();
+    let text = b"(sheet class 2 2\n(row o .)\n(row k p)\n)\n";
+    let mut marks = text_marks::<Class>(heap, text, Sides::new(2, 2)?)?;
+    let wanted = [Class::Open, Class::Void, Class::Kept, Class::Peat];
+    assert!(rt; marks.as_slice() == wanted.as_slice());
+    let mut row = [Class::Void; 2];
+    let again = in_memory(heap, 2, 2, marks.as_mut_slice(), &mut row)?;
+    assert!(rt; again.as_slice() == text.as_slice());
+    let short = in_memory(heap, 2, 2, marks.as_mut_slice(), &mut row[..1]);
+    assert_eq!(rt; number_of(short), Some(5));
     Ok(())
 }
 

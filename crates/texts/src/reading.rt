@@ -19,9 +19,11 @@ impl<'a> Cursor<'a> {
         ensures { ReadsOn (ended (all_by M.Spelled.spelled) end) self.entry result }
     {
         let word = self.written();
-        let stop = self.at + M::shared_beginning(word);
-        M::from_spelling(word).ok_or(stop)?;
-        Cursor::new(self.bytes, stop).word(&[end])
+        // Only a word that spells no mark is looked through for the place.
+        let Some(_) = M::from_spelling(word) else {
+            return Err(self.at + M::shared_beginning(word));
+        };
+        Cursor::new(self.bytes, self.at + word.len()).word(&[end])
     }
 
     // Reads a side and the byte that ends it.

@@ -1,21 +1,33 @@
-use Rattle.std.proofs.Common.{◌-◌, take, subst, ◌≤◌}
+use Rattle.std.proofs.Common.{◌-◌, ◌*◌, length, take, subst, ap, ◌∙◌, ◌≤◌}
+use Rattle.sheets.specs.Layouts.{flat}
+use Rattle.texts.specs.Texts.{TextOf}
 use Rattle.texts.proofs.Rows.{Spelling}
 use Rattle.texts.proofs.Whole.{one_sheet}
 use Rattle.brackets.specs.Cells.{in_text}
+use Rattle.brackets.proofs.Back.{text_back}
+use Rattle.brackets.proofs.Found.{Coding}
+use Rattle.brackets.proofs.Runs.{text_decoded}
 use Rattle.inputs.specs.Cuts.{cuts_of}
 use Rattle.answers.specs.Printed.{coded_of}
-use Rattle.answers.proofs.Outcome.{readable_live}
+use Rattle.answers.proofs.Outcome.{is_made, flat_live}
 use Rattle.answers.proofs.OfKind.{is_text, read_again, all_passed, printed_answer}
 use Rattle.answers.proofs.answering.answer_input.Given as given
 use Rattle.answers.proofs.answering.answer_input.Goals as goal
 
-laws : (g : given.Over) → Spelling g.M.Spelled.spelled
-laws g = let m = g.met.M.CodedMark in record { one = g.M.Mark.lowest; distinct = m.distinct; clear = m.clear }
+spelling : (g : given.Over) → Spelling g.M.Spelled.spelled
+spelling g = let m = g.met.M.CodedMark in record { one = g.M.Mark.lowest; distinct = m.distinct; clear = m.clear }
+
+coding : (g : given.Over) → Coding g.M.CodedMark.coded g.M.CodedMark.decoded g.M.Spelled.spelled
+coding g = let m = g.met.M.CodedMark in record { narrow = m.narrow; encodes = m.encodes; distinct = m.distinct }
+
+-- a raster over the marks of the text is made
+pub returns-in_err-source : goal.returns-in_err-source
+returns-in_err-source g c =
+    let s = c.args.input.sides in
+    absurd (is_made s.rows s.cols (length c.as_mut_slice.result.now) (s.rows * s.cols) (tt {0}) s.rows_side s.cols_side (ap length c.as_mut_slice.ensures.value ∙ c.in_ok-marks.ensures.long) _ _ c.in_err-source.ensures.told)
 
 pub print_sheet-requires : goal.print_sheet-requires
-print_sheet-requires g c =
-    let s = c.in_ok-source.source in
-    readable_live (in_text g.M.CodedMark.decoded g.M.Spelled.spelled s.sides.rows s.sides.cols s.bytes.now) c.in_ok-source.ensures.readable
+print_sheet-requires g c = let s = c.in_ok-source.source in flat_live s.rows s.cols s.cells.now s.long
 
 pub returns : goal.returns
 returns g c =
@@ -24,11 +36,14 @@ returns g c =
     let i = c.args.input in
     let bs = c.args.bytes.now in
     let s = c.in_ok-source.source in
-    let h = in_text g.M.CodedMark.decoded f s.sides.rows s.sides.cols s.bytes.now in
+    let made = c.in_ok-source.ensures.made in
+    let h = flat s.rows s.cols s.cells.now in
     let down = cuts_of i.down in
     let across = cuts_of i.across in
-    let t = c.in_ok-source.ensures in
-    let same = one_sheet word f (laws g) c.requires.0 h (take (i.end - 0) bs) (is_text word f bs c.requires.0 down across c.requires.1 i.end c.requires.4) t in
+    let first = is_text word f bs c.requires.0 down across c.requires.1 i.end c.requires.4 in
+    let back = text_back word g.met.M.CodedMark.whole g.M.CodedMark.coded g.M.CodedMark.decoded f (spelling g) (coding g) (take (i.end - 0) bs) c.requires.0 first i.sides.rows i.sides.cols c.requires.2 c.requires.3 in
+    let t : TextOf word f (take (i.end - 0) bs) h = text_decoded word f (take (i.end - 0) bs) (in_text g.M.CodedMark.decoded f i.sides.rows i.sides.cols (take (i.end - 0) bs)) _ back c.in_ok-marks.ensures s.rows s.cols s.cells.now made.0 made.1 (made.2 ∙ c.as_mut_slice.ensures.value) in
+    let same = one_sheet word f (spelling g) c.requires.0 h (take (i.end - 0) bs) first t in
     printed_answer (coded_of g.M.Order g.M.Mark.lowest g.M.Spelled) bs h down across
     (read_again word f bs c.requires.0 down across c.requires.1 i.end c.requires.4 h t)
     (all_passed c.requires.0 h i.sides.rows i.sides.cols down across same c.requires.2 c.requires.3 (subst (λ n. n ≤ 4096) c.cells.ensures c.if-cells-gt-MOST_CELLS.false) c.in_ok-check_cuts.ensures)

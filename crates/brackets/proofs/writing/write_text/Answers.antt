@@ -1,50 +1,18 @@
-use Rattle.std.proofs.Common.{◌≡◌, ◌≤◌, length, ◌∙◌, arith}
-use Rattle.std.proofs.lemmas.List.{length-take-le}
-use Rattle.texts.specs.Texts.{head_line}
-use Rattle.brackets.proofs.Puts.{put_long, text_put}
+use Rattle.std.proofs.Common.{length, arith}
 use Rattle.brackets.proofs.Rowwise.{measured, written_told}
 use Rattle.brackets.proofs.writing.write_text.Goals as goal
 
-pub put_head-first-requires : goal.put_head-first-requires
-put_head-first-requires g c =
-    let m = g.S.Sheet.meaning c.args.sheet.now in
-    let s = c.sides-sides.ensures in
-    let t = measured g.M.Spelled.named g.M.Spelled.spelled m (length c.args.scratch.now) c.in_ok-len.len c.in_ok-len.ensures.told in
-    let head : length (head_line g.M.Spelled.named c.sides-sides.result.rows c.sides-sides.result.cols) ≡ length (head_line g.M.Spelled.named m.rows m.cols) = (λ i. length (head_line g.M.Spelled.named (s.rows i) (s.cols i))) in
-    omega (arith, c.if-out-len.false, t.parts, head)
-
-pub put_rows-last-requires : goal.put_rows-last-requires
-put_rows-last-requires g c =
-    let m = g.S.Sheet.meaning c.args.sheet.now in
-    let s = c.sides-sides.ensures in
-    let t = measured g.M.Spelled.named g.M.Spelled.spelled m (length c.args.scratch.now) c.in_ok-len.len c.in_ok-len.ensures.told in
-    let head : length (head_line g.M.Spelled.named c.sides-sides.result.rows c.sides-sides.result.cols) ≡ length (head_line g.M.Spelled.named m.rows m.cols) = (λ i. length (head_line g.M.Spelled.named (s.rows i) (s.cols i))) in
-    let p = c.put_head-first.ensures in
-    let wide : c.sides-sides.result.cols ≤ length c.text_length.new.scratch = omega (arith, s.cols, t.wide, c.text_length.auto.scratch) in
-    record {
-      cols = length-take-le c.sides-sides.result.cols c.text_length.new.scratch wide ∙ s.cols;
-      live = t.live;
-      room = omega (arith, c.if-out-len.false, t.parts, head, p.place, put_long _ _ _ _ _ p);
-    }
-
-pub put-requires : goal.put-requires
-put-requires g c =
-    let m = g.S.Sheet.meaning c.args.sheet.now in
-    let s = c.sides-sides.ensures in
-    let t = measured g.M.Spelled.named g.M.Spelled.spelled m (length c.args.scratch.now) c.in_ok-len.len c.in_ok-len.ensures.told in
-    let head : length (head_line g.M.Spelled.named c.sides-sides.result.rows c.sides-sides.result.cols) ≡ length (head_line g.M.Spelled.named m.rows m.cols) = (λ i. length (head_line g.M.Spelled.named (s.rows i) (s.cols i))) in
-    let p = c.put_head-first.ensures in
-    let q = c.put_rows-last.ensures in
-    omega (arith, c.if-out-len.false, t.parts, head, p.place, q.place, put_long _ _ _ _ _ p, put_long _ _ _ _ _ q)
+pub put_text-requires : goal.put_text-requires
+put_text-requires g c =
+    let t = measured g.M.Spelled.named g.M.Spelled.spelled (g.S.Sheet.meaning c.args.sheet.now) (length c.args.scratch.now) c.in_ok-len.len c.in_ok-len.ensures.told in
+    record { row = omega (arith, t.wide, c.text_length.auto.scratch); live = t.live; room = omega (arith, t.is, c.if-out-len.false) }
 
 pub returns : goal.returns
 returns g c =
     let m = g.S.Sheet.meaning c.args.sheet.now in
-    let s = c.sides-sides.ensures in
     let t = measured g.M.Spelled.named g.M.Spelled.spelled m (length c.args.scratch.now) c.in_ok-len.len c.in_ok-len.ensures.told in
-    let w = text_put g.M.Spelled.named g.M.Spelled.spelled m c.sides-sides.result.rows c.sides-sides.result.cols s.rows s.cols _ _ _ _ _ _ _ c.put_head-first.ensures c.put_rows-last.ensures c.put.ensures in
     record {
-      told = written_told g.M.Spelled.named g.M.Spelled.spelled m (length c.args.scratch.now) c.in_ok-len.len t (length c.args.out.now) c.put.result c.if-out-len.false w.0;
-      leaves = w.1;
+      told = written_told g.M.Spelled.named g.M.Spelled.spelled m (length c.args.scratch.now) c.in_ok-len.len t (length c.args.out.now) c.put_text.result c.if-out-len.false c.put_text.ensures.value;
+      leaves = c.put_text.ensures.leaves;
       scratch = tt;
     }

@@ -55,4 +55,5 @@ pub returns-clause-leaves : goal.returns-clause-leaves
 returns-clause-leaves g c =
     let s = c.args.self.now in
     let line = ((begins s.sides.rows s.sides.cols c.args.row c.args.col _ s.bytes.now (vec_items s.starts) (passed _ _ [] _ _ c.in_ok-start_of_run.ensures).0 s.begin).1 c.index.result.now c.index.ensures).1 in
-    (c.fill.auto.out, run_held g.M.CodedMark.decoded g.M.Spelled.spelled s.sides.rows s.sides.cols s.bytes.now c.args.row c.args.col _ c.skip_parts-first.result.now c.skip_parts-from.result.now line c.skip_parts-first.ensures c.skip_parts-from.ensures c.fill.new.out (λ k lt. c.fill.ensures k (omega (arith, c.fill.auto.out))))
+    let live = when_true _ _ c.if-not-readable.false c.readable.ensures in
+    (c.fill.auto.out, run_held g.M.CodedMark.decoded g.M.Spelled.spelled s.sides.rows s.sides.cols s.bytes.now c.args.row c.args.col _ c.skip_parts-first.result.now c.skip_parts-from.result.now line c.skip_parts-first.ensures c.skip_parts-from.ensures c.fill.new.out (λ k lt. c.fill.ensures k (omega (arith, c.fill.auto.out)) (live k (omega (arith, c.fill.auto.out)))))
