@@ -18,6 +18,12 @@ none_some o x p q = let z : ◌≡◌ {A = ℕ} 0 1 = cc in omega arith
 pub nth_inside : {A : Type 0} (xs : List A) (i : ℕ) (x : A) → slice_get xs i ≡ Some x → i < length xs
 nth_inside xs i x is = ⊎_elim (λ (lt : i < length xs). lt) (λ (ge : length xs ≤ i). absurd (none_some (slice_get xs i) x (slice_get_past xs i ge) is)) (cases_lt i (length xs))
 
+-- where nothing stands the list has ended
+pub nth_ended : {A : Type 0} (xs : List A) (i : ℕ) → slice_get xs i ≡ None → length xs ≤ i
+nth_ended [] i is = omega arith
+nth_ended (x ∷ xs) zero is = absurd (none_some (Some x) x is refl)
+nth_ended (x ∷ xs) (suc i) is = omega (arith, nth_ended xs i is)
+
 pub nth_is : {A : Type 0} (xs : List A) (i : ℕ) (x d : A) → slice_get xs i ≡ Some x → get_or xs i d ≡ x
 nth_is xs i x d is = some_same (slice_get xs i) (get_or xs i d) x (slice_get-get_or xs i d (nth_inside xs i x is)) is
 

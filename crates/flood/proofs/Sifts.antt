@@ -1,5 +1,5 @@
 -- Elements that rise and sink in a heap. Assumes nothing.
-use Rattle.std.proofs.Common.{◌≡◌, ℕ, zero, suc, ◌+◌, ◌-◌, ◌*◌, ◌/◌, ◌<◌, ◌≤◌, Bool, true, false, ◌⊎◌, List, [], ◌∷◌, ◌++◌, length, get_or, take, set, Some, sym, refl, ap, ◌∙◌, subst, inl, inr, arith, length-take}
+use Rattle.std.proofs.Common.{◌≡◌, ℕ, zero, suc, ◌+◌, ◌-◌, ◌*◌, ◌/◌, ◌<◌, ◌≤◌, min, Bool, true, false, ◌⊎◌, List, [], ◌∷◌, ◌++◌, length, get_or, take, set, Some, sym, refl, ap, ◌∙◌, subst, inl, inr, arith, length-take}
 use Rattle.std.specs.List.Sorted.{IsPermutation}
 use Rattle.std.specs.List.{AllByRecursion, slice_get}
 use Rattle.std.proofs.lemmas.List.{set-set, set_comm, length-set, get_or-take, get_or-set_same, get_or-set_other, length-take-le, take_more, take_more_set}
@@ -133,6 +133,14 @@ pub front : {X : Type 0} (n i : ℕ) (xs : List X) (x : X) → n ≤ length xs �
 front n i xs x le is =
     let lt : i < n = omega (arith, length-take-le n xs le, slice_get_within (take n xs) i x is) in
     (lt, λ d. sym (get_or-take n xs i d lt) ∙ get_or_from_slice_get (take n xs) i x d is)
+
+-- what lies past the slice's end does not count
+pub take_min : {X : Type 0} (n : ℕ) (xs : List X) → take n xs ≡ take (min n (length xs)) xs
+take_min zero xs = let e : 0 ≡ min 0 (length xs) = omega arith in ap (λ m. take m xs) e
+take_min (suc n) [] = let e : 0 ≡ min (suc n) 0 = omega arith in ap (λ m. take m []) e
+take_min {X} (suc n) (x ∷ xs) =
+    let e : min (suc n) (length (x ∷ xs)) ≡ suc (min n (length xs)) = omega arith in
+    ap (λ (l : List X). x ∷ l) (take_min n xs) ∙ ap (λ m. take m (x ∷ xs)) (sym e)
 
 -- what stands otherwise among the first n of ys than among the first m of xs stands on the path
 pub traced : {X : Type 0} (xs ys : List X) (m n foot head : ℕ) (d : X) → length ys ≡ length xs

@@ -1,10 +1,17 @@
 -- Rectangles that hold a dead cell or none, and rectangles that are copied row by row. Assumes nothing.
-use Rattle.std.proofs.Common.{◌≡◌, ℕ, zero, suc, ◌+◌, ◌<◌, ◌≤◌, true, false, List, length, sym, ap, ◌∙◌, ⊎_elim, add-one, arith}
-use Rattle.std.proofs.lemmas.Bool.{or_parts, or_from, or_left, or_right, cases_eq}
+use Rattle.std.proofs.Common.{◌≡◌, ℕ, zero, suc, ◌+◌, ◌<◌, ◌≤◌, true, false, ltb, List, length, sym, ap, ◌∙◌, ⊎_elim, add-one, arith}
+use Rattle.std.proofs.lemmas.Bool.{or_parts, or_from, or_left, or_right, ltb-false, cases_eq}
 use Rattle.sheets.specs.declared.copies.Place.{Place}
+use Rattle.sheets.specs.declared.copies.Extent.{Extent}
 use Rattle.sheets.specs.Grids.{Grid}
 use Rattle.sheets.specs.Runs.{broken, Holds, Written}
-use Rattle.sheets.specs.Copies.{broken_rows, Copied}
+use Rattle.sheets.specs.Copies.{exceeds, broken_rows, Copied}
+
+-- a rectangle that stays within the sides
+pub rectangle_fits : (rows cols : ℕ) (p : Place) (e : Extent) → exceeds rows cols p e ≡ false → (p.row + e.height ≤ rows) × (p.col + e.width ≤ cols)
+rectangle_fits rows cols p e h =
+    let q = or_parts (ltb rows (p.row + e.height)) (ltb cols (p.col + e.width)) h in
+    (ltb-false rows (p.row + e.height) q.0, ltb-false cols (p.col + e.width) q.1)
 
 module _ {M : Type 0} (g : Grid M) (p : Place) (w : ℕ) where
   -- no row of an unbroken rectangle is broken

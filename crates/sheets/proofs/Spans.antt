@@ -5,7 +5,7 @@ use Rattle.std.proofs.lemmas.Bool.{or_parts, or_from, or_left, or_right, cases_e
 use Rattle.sheets.specs.Grids.{is_dead, at, Grid}
 use Rattle.sheets.specs.Runs.{broken, Written}
 use Rattle.sheets.specs.Layouts.{flat}
-use Rattle.sheets.proofs.Marks.{at_alive, at_take, at_drop, at_before, at_part, at_behind}
+use Rattle.sheets.proofs.Marks.{at_alive, at_ext, at_take, at_drop, at_before, at_part, at_behind}
 use Rattle.sheets.proofs.Places.{apart}
 
 module _ {M : Type 0} (g : Grid M) (row col : ℕ) where
@@ -62,3 +62,8 @@ module _ {M : Type 0} (rows cols : ℕ) (xs zs ys : List M) (row col from : ℕ)
 -- a run of a grid of marks, laid out in a list that is long enough, is unbroken
 pub flat_unbroken : {M : Type 0} (rows cols : ℕ) (xs : List M) (row col n : ℕ) → row * cols + col + n ≤ length xs → broken (flat rows cols xs) row col n ≡ false
 flat_unbroken rows cols xs row col n h = unbroken (flat rows cols xs) row col n (λ k lt. at_alive xs (row * cols + (col + k)) (omega arith))
+
+-- lists in which one grid is laid out are one list
+pub flat_same : {M : Type 0} (a b a' b' : ℕ) (xs ys : List M) → flat a b xs ≡ flat a' b' ys → xs ≡ ys
+flat_same a b a' b' xs ys e =
+    at_ext xs ys (λ j. let p : 0 * b + j ≡ j = omega arith in let q : 0 * b' + j ≡ j = omega arith in ap (at xs) (sym p) ∙ ap (λ g. g.cell 0 j) e ∙ ap (at ys) q)

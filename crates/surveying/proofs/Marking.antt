@@ -1,5 +1,5 @@
 -- An area read and flooded, and the marks of its mouths in a table. Assumes nothing.
-use Rattle.std.proofs.Common.{◌≡◌, ℕ, ◌-◌, ◌*◌, ◌<◌, ◌≤◌, Bool, false, not, eqb, ltb, List, [], ◌∷◌, get_or, Some, None, Ok, Err, Option, Result, sym, refl, ap, ◌∙◌, subst₂, arith}
+use Rattle.std.proofs.Common.{◌≡◌, ℕ, ◌-◌, ◌*◌, ◌<◌, ◌≤◌, Bool, false, not, eqb, ltb, List, [], ◌∷◌, get_or, Some, None, Ok, Err, Option, Result, sym, refl, ap, ◌∙◌, subst₂, mul-le-mul, arith}
 use Rattle.std.specs.List.{slice_get}
 use Rattle.std.proofs.lemmas.Nat.{mul-add-lt}
 use Rattle.std.proofs.lemmas.Bool.{or_from, le-ltb, eq-eqb}
@@ -64,3 +64,7 @@ module _ {M : Type 0} (κ : Kind M) (g : Grid M) (a : Area) (h w : ℕ) (is-h : 
     subst₂ (λ y z. LevelsAreSills κ y z marks ls) is-h is-w left.0,
     subst₂ (λ y z. HaveOrigins κ y z marks ls os) is-h is-w from,
   )
+
+-- small sides have a small product
+pub few_cells : (y h w : ℕ) → y ≤ 2048 → w ≤ 2048 → y * w ≤ 2048 * 2048
+few_cells y h w ly lw = mul-le-mul ly lw

@@ -1,5 +1,5 @@
 -- The sill, and the thresholds under which a node drains. Assumes nothing.
-use Rattle.std.proofs.Common.{◌≡◌, List, sym, subst}
+use Rattle.std.proofs.Common.{◌≡◌, ◌↔◌, List, sym, subst}
 use Rattle.marks.specs.Orders.{OrderLaws}
 use Rattle.terrain.specs.Ways.{Terrain, AtMost, Way, worst, last, IsSill}
 use Rattle.terrain.specs.Under.{Drains}
@@ -33,3 +33,6 @@ module _ {M N : Type 0} (G : Terrain M N) (O : OrderLaws G.leb) where
 
   pub unique : (c : N) (m n : M) → IsSill G c m → IsSill G c n → m ≡ n
   unique c m n i j = O.antisymmetric m n (drains_sill i n (sill_drains j n (le_self O n))) (drains_sill j m (sill_drains i m (le_self O m)))
+
+  pub threshold : (c : N) (m : M) → IsSill G c m ↔ ((t : M) → AtMost G m t ↔ Drains G t c)
+  threshold c m = (λ i t. (sill_drains i t, drains_sill i t), λ h. sill_of_lem c m (λ t. (h t).0) (λ t. (h t).1))

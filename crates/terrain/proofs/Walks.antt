@@ -1,5 +1,5 @@
 -- Walks under a threshold: turned, joined, raised, and as lists. Assumes nothing.
-use Rattle.std.proofs.Common.{◌≡◌, List, [], ◌∷◌, refl}
+use Rattle.std.proofs.Common.{◌≡◌, ◌↔◌, List, [], ◌∷◌, refl, subst}
 use Rattle.marks.specs.Orders.{OrderLaws}
 use Rattle.terrain.specs.Ways.{Terrain, Symmetric, AtMost, Walk, worst, last}
 use Rattle.terrain.specs.Under.{Under, stop, step}
@@ -55,3 +55,6 @@ module _ {M N : Type 0} (G : Terrain M N) where
     pub first_worst : (u : N) (ds : List N) → AtMost G (G.mark u) (worst G u ds)
     first_worst u [] = le_self O _
     first_worst u (d ∷ ds) = higher_le_left O _ _ _ (le_self O _)
+
+    pub under_walk : (t : M) (u v : N) → Under G t u v ↔ ((ds : List N) × Walk G u ds × (last u ds ≡ v) × AtMost G (worst G u ds) t)
+    under_walk t u v = (λ a. to_list a, λ w. subst (λ x. Under G t u x) w.2 (from_list t u w.0 w.1 w.3))

@@ -129,14 +129,15 @@ fn pass_link<M: Mark>(
 ) -> Option<(usize, M)>
     ensures { result ≡ (if (nat_le numbers.now.start pass.from && nat_lt pass.from numbers.now.end) && (nat_le numbers.now.start pass.to && nat_lt pass.to numbers.now.end) then far_end node pass else None) }
 {
+    // Most passes join other mouths, so that is asked first.
+    if pass.from != node && pass.to != node {
+        return None;
+    }
     if !numbers.contains(&pass.from) || !numbers.contains(&pass.to) {
         return None;
     }
     if pass.from == node {
         return Some((pass.to, pass.level));
     }
-    if pass.to == node {
-        return Some((pass.from, pass.level));
-    }
-    None
+    Some((pass.from, pass.level))
 }
