@@ -1,7 +1,7 @@
 // Texts by the grammar that they are written in, and reading by one.
 #![tactic(auto)]
 
-ghost use Rattle.std.specs.Prelude.{◌≤◌, length, drop, unwrap_or, IfSome};
+ghost use Rattle.std.specs.Prelude.{◌≡◌, ◌≢◌, ◌<◌, ◌≤◌, true, false, length, get_or, drop, unwrap_or, IfSome};
 ghost use Rattle.grammar.specs.Grammars.{Reads, lit};
 ghost use Rattle.grammar.specs.Decimals.{Natural};
 
@@ -10,11 +10,19 @@ pub fn literal(bytes: &[u8], at: usize, word: &[u8]) -> Result<usize, usize>
     ensures { Reads (lit word.now) at (drop at bytes.now) result }
 {
     for (i, b) in word.iter().enumerate() {
-        if bytes.get(at + i) != Some(b) {
+        if !stands(bytes, at + i, *b) {
             return Err(at + i);
         }
     }
     Ok(at + word.len())
+}
+
+// Whether a byte stands at a place.
+fn stands(bytes: &[u8], at: usize, byte: u8) -> bool
+    ensures here { result ≡ true → (at < length bytes.now) × (get_or bytes.now at 0 ≡ byte) }
+    ensures other { result ≡ false → at < length bytes.now → get_or bytes.now at 0 ≢ byte }
+{
+    bytes.get(at).is_some_and(|b| *b == byte)
 }
 
 // Reads the longest beginning at `at` that some decimal number from 1 to `max` has: its end, and the number, if it is one.

@@ -1,7 +1,8 @@
 -- Runs that hold a dead cell or none, and runs that are written. Assumes nothing.
-use Rattle.std.proofs.Common.{◌≡◌, ℕ, zero, suc, ◌+◌, ◌-◌, ◌*◌, ◌<◌, ◌≤◌, true, false, List, length, take, drop, sym, refl, ap, ◌∙◌, ⊎_elim, subst, arith}
+use Rattle.std.proofs.Common.{◌≡◌, ℕ, zero, suc, ◌+◌, ◌-◌, ◌*◌, ◌<◌, ◌≤◌, true, false, List, ◌++◌, length, take, drop, sym, refl, ap, ◌∙◌, ⊎_elim, subst, arith}
 use borrow.Rule.Slice.PartMut.{put_mid}
 use Rattle.std.proofs.lemmas.Bool.{or_parts, or_from, or_left, or_right, cases_eq, cases_lt}
+use Rattle.std.proofs.lemmas.List.{drop-drop}
 use Rattle.sheets.specs.Grids.{is_dead, at, Grid}
 use Rattle.sheets.specs.Runs.{broken, Written}
 use Rattle.sheets.specs.Layouts.{flat}
@@ -33,19 +34,18 @@ pub read_part : {M : Type 0} (xs ys : List M) (from n row cols col : ℕ) → fr
 read_part xs ys from n row cols col ef ey long k lt =
     sym (ap (λ l. at l k) ey ∙ at_take (drop from xs) n k (omega arith) ∙ at_drop xs from k ∙ ap (at xs) (omega arith))
 
--- a part of a list that is overwritten by the marks ys, handed over as zs, is a run that is written into the grid laid out in it
-module _ {M : Type 0} (rows cols : ℕ) (xs zs ys : List M) (row col from : ℕ) (starts : from ≡ row * cols + col) (fits : col + length ys ≤ cols) (within : from + length ys ≤ length xs) where
+-- a part of a list that is overwritten by the marks ys is a run that is written into the grid laid out in it
+module _ {M : Type 0} (rows cols : ℕ) (xs ys : List M) (row col from : ℕ) (starts : from ≡ row * cols + col) (fits : col + length ys ≤ cols) (within : from + length ys ≤ length xs) where
   here : from ≤ length xs
   here = omega arith
 
   after : List M
   after = put_mid from (length ys) xs ys
 
-  pub part_written : zs ≡ ys → Written (flat rows cols xs) (flat rows cols (put_mid from (from + length ys - from) xs zs)) row col ys
+  pub part_written : Written (flat rows cols xs) (flat rows cols (take from xs ++ (ys ++ drop (from + length ys) xs))) row col ys
   unfolding after
-  part_written is =
-      let n : from + length ys - from ≡ length ys = omega arith in
-      let e : put_mid from (from + length ys - from) xs zs ≡ after = λ i. put_mid from (n i) xs (is i) in
+  part_written =
+      let e : take from xs ++ (ys ++ drop (from + length ys) xs) ≡ after = ap (λ l. take from xs ++ (ys ++ l)) (sym (drop-drop (length ys) from xs)) in
       rw e (record {
         rows = refl;
         cols = refl;

@@ -1,5 +1,5 @@
 // A sheet over a lent slice of marks.
-ghost use Rattle.std.specs.Prelude.{◌≡◌, ℕ, ◌+◌, ◌*◌, ◌<◌, ◌≤◌, [], ◌∷◌, length, IfOk};
+ghost use Rattle.std.specs.Prelude.{◌≡◌, ℕ, ◌+◌, ◌*◌, ◌<◌, ◌≤◌, [], ◌∷◌, ◌++◌, length, take, drop, IfOk};
 ghost use Rattle.marks.specs.Refusals.{told, answered};
 ghost use Rattle.sheets.specs.Grids.{Side};
 ghost use Rattle.sheets.specs.Layouts.{flat, make_told};
@@ -69,9 +69,16 @@ impl<'a, M: Mark> WritableSheet for Raster<'a, M> {
     ghost loans = { λ s. s.cells.ghost_name ∷ [] };
 
     fn write(&mut self, row: usize, col: usize, marks: &[M]) -> Result<(), Refusal> {
-        let len = marks.len();
-        let from = self.sides().start_of_run(row, col, len)?;
-        self.cells[from..from + len].copy_from_slice(marks);
+        let from = self.sides().start_of_run(row, col, marks.len())?;
+        overwrite(self.cells, from, marks);
         Ok(())
     }
+}
+
+// Puts marks into the cells from a place on.
+fn overwrite<M: Copy>(cells: &mut [M], from: usize, marks: &[M])
+    requires { from + length marks.now ≤ length cells.old }
+    ensures { cells.new ≡ take from cells.old ++ (marks.now ++ drop (from + length marks.now) cells.old) }
+{
+    cells[from..from + marks.len()].copy_from_slice(marks);
 }

@@ -11,7 +11,6 @@ use crate::height::Height;
 use crate::kind::{CodedMark, Mark, Spelled};
 use crate::spelling::Spelling;
 use grammar::natural;
-use itoa::write_digits;
 
 impl Spelled for Height {
     const WORD: &'static [u8] = b"height";
@@ -87,7 +86,14 @@ fn digits(n: u16) -> Spelling
     ensures room { 1 ≤ result.start }
 {
     let mut bytes = [b' '; 6];
-    let start = write_digits(n.into(), &mut bytes, 6);
+    let mut start = 5;
+    let mut rest = n;
+    while rest >= 10 {
+        bytes[start] = b'0' + (rest % 10) as u8;
+        start -= 1;
+        rest /= 10;
+    }
+    bytes[start] = b'0' + rest as u8;
     Spelling { bytes, start }
 }
 

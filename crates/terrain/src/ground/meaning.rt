@@ -1,6 +1,6 @@
 // What the ground of a sheet's cells answers.
-ghost use Rattle.std.specs.Prelude.{◌≡◌, ℕ, ◌*◌, ◌<◌, ◌≤◌, MatchOption};
-ghost use Rattle.sheets.specs.Grids.{Side};
+ghost use Rattle.std.specs.Prelude.{◌≡◌, ℕ, ◌*◌, ◌/◌, ◌%◌, ◌<◌, ◌≤◌, MatchOption};
+ghost use Rattle.sheets.specs.Grids.{Side, at_edge};
 ghost use Rattle.terrain.specs.CellGrounds.{cell_crossings, cell_drain};
 ghost use Rattle.terrain.specs.Cells.{node_of};
 ghost use Rattle.terrain.specs.Neighbours.{degree, neighbour, span};
@@ -35,9 +35,16 @@ impl<'a, M: Mark> Ground for CellGround<'a, M> {
 
     fn drain(&self, node: usize) -> Option<M> {
         let mark = *self.marks.get(node)?;
-        let (row, col) = (node / self.sides.cols, node % self.sides.cols);
-        self.sides.on_edge(row, col).then_some(mark)
+        on_edge(self.sides, node).then_some(mark)
     }
+}
+
+// Whether the cell of a number lies on the edge.
+fn on_edge(sides: Sides, node: usize) -> bool
+    ensures { result ≡ at_edge sides.rows sides.cols (node / sides.cols) (node % sides.cols) }
+{
+    let (row, col) = (node / sides.cols, node % sides.cols);
+    sides.on_edge(row, col)
 }
 
 // How many cells along a side lie beside a cell, itself among them.

@@ -1,13 +1,18 @@
-use Rattle.std.proofs.Common.{◌≡◌, ◌<◌, ◌≤◌, ℕ, length, decimal, arith}
-use Rattle.std.proofs.lemmas.Fmt.{length-decimal-le}
+use Rattle.std.proofs.Common.{refl, arith}
+use Rattle.marks.proofs.Endings.{ending_none, ending_more, ending_all, ending_room}
 use Rattle.marks.proofs.height.codes.digits.Goals as goal
 
--- a number of 16 bits has at most five digits
-few : (n m : ℕ) → n < 65536 → m ≡ n → length (decimal m) ≤ 5
-few n m lt e = length-decimal-le 5 m (omega arith) (omega arith) (omega arith)
+pub loop-rest-init : goal.loop-rest-init
+loop-rest-init c = ending_none _ _ c.ranges.n.fits refl
 
-pub write_digits-start-requires : goal.write_digits-start-requires
-write_digits-start-requires c = (omega (arith, few _ _ c.ranges.n.fits c.into.ensures), omega arith)
+pub loop-rest-preserved : goal.loop-rest-preserved
+loop-rest-preserved c = ending_more _ _ _ _ c.loop-rest.invariant c.loop-rest-test.true
 
-pub returns-clause-room : goal.returns-clause-room
-returns-clause-room c = omega (arith, few _ _ c.ranges.n.fits c.into.ensures, c.write_digits-start.ensures.start)
+pub returns : goal.returns
+returns c = record {
+  value = ending_all _ _ _ _ c.loop-rest.invariant (omega arith);
+  room = ending_room _ _ _ _ c.loop-rest.invariant;
+}
+
+pub overflow_sub-start : goal.overflow_sub-start
+overflow_sub-start c = ending_room _ _ _ _ c.loop-rest.invariant
