@@ -33,7 +33,7 @@ pub(crate) fn readable<M: CodedMark>(line: &[u8], len: usize) -> bool
     true
 }
 
-// Puts the marks of the first cells of a line into a slice; for a cell that is dead, what stands there stays.
+// Puts the marks of the first cells of a line into a slice; what stands there for a cell that is dead is free.
 pub(crate) fn fill<M: CodedMark>(line: &[u8], out: &mut [M])
     ensures { (k : ℕ) → k < length out.old → is_dead (cell_along M.CodedMark.decoded M.Spelled.spelled line.now k) ≡ false → cell_along M.CodedMark.decoded M.Spelled.spelled line.now k ≡ at out.new k }
 {
