@@ -26,25 +26,28 @@ pub(crate) fn print_sheet<M: CodedMark, S: Sheet<Mark = M>>(
     let void = M::void();
     let Sides { rows, cols } = source.sides();
     let n = rows * cols;
-    let entry = Entry {
-        level: void,
-        node: 0,
-        origin: 0,
-    };
     let mut cells = vec![in heap; void; n]?;
-    let mut marks = vec![in heap; void; n]?;
-    let mut levels = vec![in heap; None; n]?;
-    let mut origins = vec![in heap; None; n]?;
-    let mut entries = vec![in heap; entry; n]?;
-    let mut row = vec![in heap; void; cols]?;
     let mut target = Raster::new(rows, cols, cells.as_mut_slice())?;
-    let mut scratch = Scratch {
-        marks: marks.as_mut_slice(),
-        levels: levels.as_mut_slice(),
-        origins: origins.as_mut_slice(),
-        heap: entries.as_mut_slice(),
+    // What filling works in is given back before the text is made.
+    let raised = {
+        let entry = Entry {
+            level: void,
+            node: 0,
+            origin: 0,
+        };
+        let mut marks = vec![in heap; void; n]?;
+        let mut levels = vec![in heap; None; n]?;
+        let mut origins = vec![in heap; None; n]?;
+        let mut entries = vec![in heap; entry; n]?;
+        let mut scratch = Scratch {
+            marks: marks.as_mut_slice(),
+            levels: levels.as_mut_slice(),
+            origins: origins.as_mut_slice(),
+            heap: entries.as_mut_slice(),
+        };
+        fill_sheet(source, &mut target, &mut scratch)?
     };
-    let raised = fill_sheet(source, &mut target, &mut scratch)?;
+    let mut row = vec![in heap; void; cols]?;
     let mut text = sheet_text(heap, &target, row.as_mut_slice())?;
     append_raised(heap, &mut text, raised)?;
     Ok(text)
