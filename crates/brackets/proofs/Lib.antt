@@ -4,4 +4,4 @@ pub mod Back
 pub mod Along
 pub mod Puts
 pub mod Rowwise
-pub mod Runs
+pub mod Decodings

@@ -1,5 +1,5 @@
 -- Writing the text of a sheet. Assumes nothing.
-use Rattle.std.specs.Prelude.{◌≡◌, ℕ, ◌+◌, ◌≤◌, ◌⊎◌, List, [], ◌∷◌, ◌++◌, map, length, take, drop, Ok, Err, codes, Vec, vec_items, Result, nat_lt}
+use Rattle.std.specs.Prelude.{◌≡◌, ℕ, ◌+◌, ◌≤◌, Bool, ◌⊎◌, List, [], ◌∷◌, ◌++◌, map, length, take, drop, Ok, Err, codes, Vec, vec_items, Result, nat_lt}
 use Rattle.std.specs.declared.alloc.Global.{Global}
 use Rattle.std.specs.List.{range_with_len}
 use Rattle.marks.specs.declared.refusal.Refusal.{Refusal}
@@ -35,12 +35,16 @@ abbrev pub WritingLeaves : {M : Type 0} → List ℕ → (M → List ℕ) → Gr
 WritingLeaves word f g before after (Ok n) = after ≡ text_of word f g ++ drop (length (text_of word f g)) before
 WritingLeaves word f g before after (Err e) = after ≡ before
 
--- what the text of a sheet in memory tells: refused as its length is; else the text, or 27 where there was no memory for it
+-- what is asked before the text of a sheet is made in memory: as for its length
+abbrev pub text_checks : {M : Type 0} → Grid M → ℕ → List (Bool × ℕ)
+text_checks g room = (nat_lt room g.cols, 5) ∷ (dead_in g, 7) ∷ []
+
+-- what that text tells: refused by these checks; else the text, or 27 where there was no memory for it
 abbrev pub MemoryTold : {M : Type 0} → List ℕ → (M → List ℕ) → Grid M → ℕ → Result (Vec ℕ Global) Refusal → Type 0
-MemoryTold word f g room (Ok v) = accepted (vec_items v) ≡ checked ((nat_lt room g.cols, 5) ∷ (dead_in g, 7) ∷ []) (text_of word f g)
+MemoryTold word f g room (Ok v) = accepted (vec_items v) ≡ checked (text_checks g room) (text_of word f g)
 MemoryTold word f g room (Err e) =
-    (refused (number e) (placed e) ≡ checked ((nat_lt room g.cols, 5) ∷ (dead_in g, 7) ∷ []) (text_of word f g))
-    ⊎ ((e ≡ NoMemory) × (accepted (tt {0}) ≡ checked ((nat_lt room g.cols, 5) ∷ (dead_in g, 7) ∷ []) tt))
+    (refused (number e) (placed e) ≡ checked (text_checks g room) (text_of word f g))
+    ⊎ ((e ≡ NoMemory) × (accepted (tt {0}) ≡ checked (text_checks g room) tt))
 
 -- scratch is unchanged after 5, and free otherwise
 abbrev pub ScratchKept : {M X : Type 0} → List M → List M → Result X Refusal → Type 0

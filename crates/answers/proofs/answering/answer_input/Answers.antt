@@ -6,7 +6,7 @@ use Rattle.texts.proofs.Whole.{one_sheet}
 use Rattle.brackets.specs.Cells.{in_text}
 use Rattle.brackets.proofs.Back.{text_back}
 use Rattle.brackets.proofs.Found.{Coding}
-use Rattle.brackets.proofs.Runs.{text_decoded}
+use Rattle.brackets.proofs.Decodings.{text_decoded}
 use Rattle.inputs.specs.Cuts.{cuts_of}
 use Rattle.answers.specs.Printed.{coded_of}
 use Rattle.answers.proofs.Outcome.{is_made, flat_live}

@@ -3,7 +3,7 @@ use Rattle.sheets.specs.Grids.{is_dead}
 use Rattle.terrain.proofs.Rows.{row_end, part_length}
 use Rattle.brackets.specs.Lines.{lines_on, past_line, parts_on}
 use Rattle.brackets.specs.Cells.{cell_along, in_text}
-use Rattle.brackets.proofs.Runs.{decodes_more}
+use Rattle.brackets.proofs.Decodings.{decodes_more}
 use Rattle.brackets.proofs.decoding.decode_rows.Goals as goal
 
 pub loop-i-init : goal.loop-i-init
