@@ -28,7 +28,7 @@ pub(crate) fn print_sheet<M: CodedMark, S: Sheet<Mark = M>>(
     let n = rows * cols;
     let mut cells = vec![in heap; void; n]?;
     let mut target = Raster::new(rows, cols, cells.as_mut_slice())?;
-    // What filling works in is given back before the text is made.
+    // The memory that filling works in is given back before the text is made.
     let raised = {
         let entry = Entry {
             level: void,

@@ -1,9 +1,8 @@
 -- The mark that has a spelling. Assumes nothing.
-use Rattle.std.proofs.Common.{◌≡◌, ℕ, zero, suc, ◌^◌, ◌<◌, Bool, true, false, cond, ◌&&◌, List, [], ◌∷◌, length, set, ◌≢◌, ◌+◌, Some, None, Option, sym, refl, ap, ◌∙◌, ⊎_elim, arith, below_more, MatchOption}
+use Rattle.std.proofs.Common.{◌≡◌, ℕ, zero, suc, ◌^◌, ◌<◌, Bool, true, false, cond, ◌&&◌, List, [], ◌∷◌, Some, None, Option, sym, refl, ap, ◌∙◌, ⊎_elim, arith, MatchOption}
 use Rattle.std.proofs.lemmas.Bool.{cases_eq}
 use Rattle.std.proofs.lemmas.Bool.Decides.{eqb_tells}
-use Rattle.sheets.specs.Grids.{Cell, mark, is_dead, cell_of, at}
-use Rattle.sheets.proofs.Marks.{at_set_same, at_set_other}
+use Rattle.sheets.specs.Grids.{cell_of}
 use Rattle.texts.specs.Tokens.{front}
 use Rattle.brackets.specs.Lines.{parts_on}
 use Rattle.brackets.specs.Cells.{same, spells, mark_below, mark_of, cell_along}
@@ -80,17 +79,3 @@ module _ {M : Type 0} (coded : M → ℕ) (decoded : ℕ → Option M) (f : M �
 -- the cell at a place of a line
 pub along_at : {M : Type 0} (decoded : ℕ → Option M) (f : M → List ℕ) (line : List ℕ) (k : ℕ) (rest : List ℕ) → rest ≡ parts_on k line → cell_along decoded f line k ≡ cell_of (mark_of decoded f (front rest))
 along_at decoded f line k rest e = ap (λ w. cell_of (mark_of decoded f (front w))) (sym e)
-
--- one more cell of a line whose mark, if it has one, stands in the list
-pub marked_more : {M : Type 0} (C : ℕ → Cell M) (xs : List M) (n : ℕ) (y : M) → ((k : ℕ) → k < n → is_dead (C k) ≡ false → C k ≡ at xs k) → n < length xs → C n ≡ mark y → (k : ℕ) → k < n + 1 → is_dead (C k) ≡ false → C k ≡ at (set xs n y) k
-marked_more C xs n y h lt e =
-    below_more (λ k. is_dead (C k) ≡ false → C k ≡ at (set xs n y) k) n
-    (λ k l d. let ne : k ≢ n = omega arith in h k l d ∙ sym (at_set_other xs n k y ne))
-    (λ d. e ∙ sym (at_set_same xs n y lt))
-
--- one more that is dead, whatever stands in its place
-pub dead_more : {M : Type 0} (C : ℕ → Cell M) (xs : List M) (n : ℕ) (y : M) → ((k : ℕ) → k < n → is_dead (C k) ≡ false → C k ≡ at xs k) → is_dead (C n) ≡ true → (k : ℕ) → k < n + 1 → is_dead (C k) ≡ false → C k ≡ at (set xs n y) k
-dead_more C xs n y h e =
-    below_more (λ k. is_dead (C k) ≡ false → C k ≡ at (set xs n y) k) n
-    (λ k l d. let ne : k ≢ n = omega arith in h k l d ∙ sym (at_set_other xs n k y ne))
-    (λ d. let z : true ≡ false = sym e ∙ d in let w : ◌≡◌ {A = ℕ} 0 1 = cc in absurd (omega arith))

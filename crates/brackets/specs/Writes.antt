@@ -22,24 +22,24 @@ blanked f (m ∷ ms) = 32 ∷ (f m ++ blanked f ms)
 abbrev pub line_of : {M : Type 0} → (M → List ℕ) → List M → List ℕ
 line_of f ms = codes "(row" ++ (blanked f ms ++ (41 ∷ 10 ∷ []))
 
--- what the length of a sheet's text tells, where the scratch has `room` places: 5 if a row does not fit in it, 7 for a dead cell
+-- what is asked before a sheet's text is made, where the scratch has `room` places: 5 if a row does not fit in it, 7 for a dead cell
+abbrev pub text_checks : {M : Type 0} → Grid M → ℕ → List (Bool × ℕ)
+text_checks g room = (nat_lt room g.cols, 5) ∷ (dead_in g, 7) ∷ []
+
+-- what the length of a sheet's text tells
 abbrev pub length_told : {M : Type 0} → List ℕ → (M → List ℕ) → Grid M → ℕ → Told ℕ
-length_told word f g room = checked ((nat_lt room g.cols, 5) ∷ (dead_in g, 7) ∷ []) (length (text_of word f g))
+length_told word f g room = checked (text_checks g room) (length (text_of word f g))
 
 -- what writing a sheet's text tells, where the buffer has `space` bytes: as above, and then 9 if the text does not fit in it
 abbrev pub writing_told : {M : Type 0} → List ℕ → (M → List ℕ) → Grid M → ℕ → ℕ → Told ℕ
-writing_told word f g room space = checked ((nat_lt room g.cols, 5) ∷ (dead_in g, 7) ∷ (nat_lt space (length (text_of word f g)), 9) ∷ []) (length (text_of word f g))
+writing_told word f g room space = checked (text_checks g room ++ ((nat_lt space (length (text_of word f g)), 9) ∷ [])) (length (text_of word f g))
 
 -- what writing leaves in the buffer: accepted, the text, and behind it what stood there; refused, what it held
 abbrev pub WritingLeaves : {M : Type 0} → List ℕ → (M → List ℕ) → Grid M → List ℕ → List ℕ → Result ℕ Refusal → Type 0
 WritingLeaves word f g before after (Ok n) = after ≡ text_of word f g ++ drop (length (text_of word f g)) before
 WritingLeaves word f g before after (Err e) = after ≡ before
 
--- what is asked before the text of a sheet is made in memory: as for its length
-abbrev pub text_checks : {M : Type 0} → Grid M → ℕ → List (Bool × ℕ)
-text_checks g room = (nat_lt room g.cols, 5) ∷ (dead_in g, 7) ∷ []
-
--- what that text tells: refused by these checks; else the text, or 27 where there was no memory for it
+-- what the text of a sheet in memory tells: refused as its length is; else the text, or 27 where there was no memory for it
 abbrev pub MemoryTold : {M : Type 0} → List ℕ → (M → List ℕ) → Grid M → ℕ → Result (Vec ℕ Global) Refusal → Type 0
 MemoryTold word f g room (Ok v) = accepted (vec_items v) ≡ checked (text_checks g room) (text_of word f g)
 MemoryTold word f g room (Err e) =

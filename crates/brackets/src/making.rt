@@ -64,7 +64,6 @@ impl<'a, M: CodedMark> Sheet for Text<'a, M> {
         if !readable::<M>(from, len) {
             return Err(Refusal::DeadCell);
         }
-        fill::<M>(from, out);
-        Ok(())
+        fill::<M>(from, out)
     }
 }

@@ -123,6 +123,25 @@ fn marks_in_memory(rt: HostRuntime) -> Result<(), Fail> {
 }
 
 #[test]
+fn marks_of_dead_cells(rt: HostRuntime) -> Result<(), Fail> {
+    let heap = rt.alloc();
+    let sides = Sides::new(2, 2)?;
+    let read = text_marks::<Class>(heap, b"(sheet class 2 2\n(row o s)\n(row k p)\n)\n", sides);
+    assert_eq!(rt; number_of(read), None);
+    let misspelled = text_marks::<Class>(
+        heap,
+        b"(sheet class 2 2\n(row o s)\n(row k q)\n)\n",
+        sides,
+    );
+    assert_eq!(rt; number_of(misspelled), Some(7));
+    let short = text_marks::<Class>(heap, b"(sheet class 1 2\n(row o s)\n)\n", sides);
+    assert_eq!(rt; number_of(short), Some(7));
+    let narrow = text_marks::<Class>(heap, b"(sheet class 2 1\n(row o)\n(row k)\n)\n", sides);
+    assert_eq!(rt; number_of(narrow), Some(7));
+    Ok(())
+}
+
+#[test]
 fn refusals(rt: HostRuntime) {
     let heap = rt.alloc();
     let text = b"(sheet class 1 4\n(row o s m w)\n)\n";

@@ -80,7 +80,7 @@ impl CodedMark for Height {
     }
 }
 
-// The decimal digits of a number of at most five. By hand: what another crate says of its digits would have to be trusted.
+// The decimal digits of a number, at most five. A loop of our own: what another crate promises of its digits would have to be trusted.
 fn digits(n: u16) -> Spelling
     ensures value { spelt result ≡ decimal n }
     ensures room { 1 ≤ result.start }

@@ -1,8 +1,8 @@
-use Rattle.std.proofs.Common.{◌≡◌, ℕ, ◌<◌, false}
-use Rattle.sheets.specs.Grids.{at, is_dead}
+use Rattle.std.proofs.Common.{◌≡◌, ℕ, ◌<◌}
+use Rattle.sheets.specs.Grids.{at}
 use Rattle.brackets.specs.Lines.{parts_on}
 use Rattle.brackets.specs.Cells.{cell_along}
 use Rattle.brackets.proofs.cells.fill.Given as goal
 
 abbrev pub invariant-loop-slot : goal.invariant-loop-slot
-invariant-loop-slot g l = (l.rest ≡ parts_on l.slot-index l.line) × ((k : ℕ) → k < l.slot-index → is_dead (cell_along g.M.CodedMark.decoded g.M.Spelled.spelled l.line k) ≡ false → cell_along g.M.CodedMark.decoded g.M.Spelled.spelled l.line k ≡ at l.out k)
+invariant-loop-slot g l = (l.rest ≡ parts_on l.slot-index l.line) × ((k : ℕ) → k < l.slot-index → cell_along g.M.CodedMark.decoded g.M.Spelled.spelled l.line k ≡ at l.out k)

@@ -1,6 +1,8 @@
-use Rattle.std.proofs.Common.{◌≡◌, ℕ, suc, ◌-◌, ◌<◌, ◌≤◌, false, List, [], ◌∷◌, length, get_or, take, drop, vec_items, refl, ap, ◌∙◌, arith, length-drop}
+use Rattle.std.proofs.Common.{◌≡◌, ℕ, suc, ◌-◌, ◌<◌, ◌≤◌, Bool, true, false, List, [], ◌∷◌, Ok, Err, Result, MatchResult, length, get_or, take, drop, vec_items, sym, refl, ap, ◌∙◌, arith, length-drop}
 use Rattle.std.proofs.lemmas.List.{take_all}
 use Rattle.std.proofs.lemmas.Bool.Decides.{when_true, when_false}
+use Rattle.marks.specs.declared.refusal.Refusal.{Refusal}
+use Rattle.marks.specs.declared.refusal.Refusal.TheVariants.{DeadCell}
 use Rattle.sheets.specs.Runs.{overruns}
 use Rattle.sheets.proofs.Checks.{fails, passes, passed, run_fits}
 use Rattle.brackets.specs.Lines.{lines_on, row_starts}
@@ -43,17 +45,23 @@ returns-then-not-readable-clause-told g c =
     passes _ _ (_ ∷ []) _ _ (passed _ _ [] _ _ c.in_ok-start_of_run.ensures).0
     (fails _ _ [] _ (run_dead g.M.CodedMark.decoded g.M.Spelled.spelled s.sides.rows s.sides.cols s.bytes.now c.args.row c.args.col _ c.skip_parts-first.result.now c.skip_parts-from.result.now line c.skip_parts-first.ensures c.skip_parts-from.ensures (length c.args.out.now) d.0 d.1 d.2))
 
+-- nothing is refused of cells that are not dead
+filled : {A : Type 0} (n : ℕ) (dead : ℕ → Bool) (r : Result (Unit {0}) Refusal) → MatchResult r (λ _. A) (λ e. (e ≡ DeadCell) × ((k : ℕ) × (k < n) × (dead k ≡ true))) → ((k : ℕ) → k < n → dead k ≡ false) → (r ≡ Ok tt) × A
+filled n dead (Ok u) h live = (refl, h)
+filled n dead (Err e) h live = let d = h.1 in let z : true ≡ false = sym d.2 ∙ live d.0 d.1 in let w : ◌≡◌ {A = ℕ} 0 1 = cc in absurd (omega arith)
+
 pub returns-clause-told : goal.returns-clause-told
 returns-clause-told g c =
     let s = c.args.self.now in
     let line = ((begins s.sides.rows s.sides.cols c.args.row c.args.col _ s.bytes.now (vec_items s.starts) (passed _ _ [] _ _ c.in_ok-start_of_run.ensures).0 s.begin).1 c.index.result.now c.index.ensures).1 in
     let live = when_true _ _ c.if-not-readable.false c.readable.ensures in
-    passes _ _ (_ ∷ []) _ _ (passed _ _ [] _ _ c.in_ok-start_of_run.ensures).0
-    (passes _ _ [] _ _ (run_alive g.M.CodedMark.decoded g.M.Spelled.spelled s.sides.rows s.sides.cols s.bytes.now c.args.row c.args.col _ c.skip_parts-first.result.now c.skip_parts-from.result.now line c.skip_parts-first.ensures c.skip_parts-from.ensures (length c.args.out.now) live) refl)
+    let ok = filled _ _ c.fill.result c.fill.ensures live in
+    rw ok.0 (passes _ _ (_ ∷ []) _ _ (passed _ _ [] _ _ c.in_ok-start_of_run.ensures).0
+    (passes _ _ [] _ _ (run_alive g.M.CodedMark.decoded g.M.Spelled.spelled s.sides.rows s.sides.cols s.bytes.now c.args.row c.args.col _ c.skip_parts-first.result.now c.skip_parts-from.result.now line c.skip_parts-first.ensures c.skip_parts-from.ensures (length c.args.out.now) live) refl))
 
 pub returns-clause-leaves : goal.returns-clause-leaves
 returns-clause-leaves g c =
     let s = c.args.self.now in
     let line = ((begins s.sides.rows s.sides.cols c.args.row c.args.col _ s.bytes.now (vec_items s.starts) (passed _ _ [] _ _ c.in_ok-start_of_run.ensures).0 s.begin).1 c.index.result.now c.index.ensures).1 in
-    let live = when_true _ _ c.if-not-readable.false c.readable.ensures in
-    (c.fill.auto.out, run_held g.M.CodedMark.decoded g.M.Spelled.spelled s.sides.rows s.sides.cols s.bytes.now c.args.row c.args.col _ c.skip_parts-first.result.now c.skip_parts-from.result.now line c.skip_parts-first.ensures c.skip_parts-from.ensures c.fill.new.out (λ k lt. c.fill.ensures k (omega (arith, c.fill.auto.out)) (live k (omega (arith, c.fill.auto.out)))))
+    let ok = filled _ _ c.fill.result c.fill.ensures (when_true _ _ c.if-not-readable.false c.readable.ensures) in
+    rw ok.0 (c.fill.auto.out, run_held g.M.CodedMark.decoded g.M.Spelled.spelled s.sides.rows s.sides.cols s.bytes.now c.args.row c.args.col _ c.skip_parts-first.result.now c.skip_parts-from.result.now line c.skip_parts-first.ensures c.skip_parts-from.ensures c.fill.new.out (λ k lt. ok.1 k (omega (arith, c.fill.auto.out))))
